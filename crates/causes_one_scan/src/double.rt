@@ -18,6 +18,7 @@ impl<S: Signal> Operations for Double<S> {
 
     ghost choice_known = { doubles_choice_known S.value S.algebra S.choice_known };
 
+    /// The same known value on both sides.
     fn known(b: bool) -> Double<S> {
         Double {
             low: S::known(b),
@@ -25,6 +26,7 @@ impl<S: Signal> Operations for Double<S> {
         }
     }
 
+    /// The OR, side by side.
     fn or(self, other: Double<S>) -> Double<S> {
         Double {
             low: self.low.or(other.low),
@@ -32,6 +34,7 @@ impl<S: Signal> Operations for Double<S> {
         }
     }
 
+    /// The AND, side by side.
     fn and(self, other: Double<S>) -> Double<S> {
         Double {
             low: self.low.and(other.low),
@@ -39,6 +42,7 @@ impl<S: Signal> Operations for Double<S> {
         }
     }
 
+    /// The inverse of each side.
     fn not(self) -> Double<S> {
         Double {
             low: self.low.not(),
@@ -46,6 +50,7 @@ impl<S: Signal> Operations for Double<S> {
         }
     }
 
+    /// The choice, side by side: each side of the condition decides for its own.
     fn choose(condition: Double<S>, on: Double<S>, off: Double<S>) -> Double<S> {
         Double {
             low: S::choose(condition.low, on.low, off.low),
@@ -53,6 +58,7 @@ impl<S: Signal> Operations for Double<S> {
         }
     }
 
+    /// A pair is a value where both sides are.
     fn is_value(self) -> bool {
         self.low.is_value() && self.high.is_value()
     }

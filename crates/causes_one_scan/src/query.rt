@@ -1,4 +1,4 @@
-//! What a look is asked.
+//! What a look at a prefix is asked: the question, with what was made ready for its looks.
 
 use causes_query::source::InputSource;
 use diagram_program::Program;

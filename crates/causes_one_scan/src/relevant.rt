@@ -1,6 +1,6 @@
 //! The inputs that decide what one scan leaves of a coil, found by looks over likenesses.
 
-ghost use Rattle.std.specs.Prelude.{◌≡◌, ◌<◌, ◌↔◌, IfErr, IfOk, IsTrue, None, [], length, map};
+ghost use Rattle.std.specs.Prelude.{◌≡◌, ◌<◌, IfErr, IfOk, None, [], length, map};
 ghost use Rattle.diagram_declarations.specs.Decls.{is_input};
 ghost use Rattle.causes_query.specs.Assignment.{input_variables};
 ghost use Rattle.causes_query.specs.Causes.{question};
@@ -19,24 +19,6 @@ use scan_signals::Likeness;
 use scan_symbolic::laws::look_is_scan;
 use scan_symbolic::{Work, liken};
 use std::alloc::{AllocError, Global};
-
-fn is_open(likeness: Likeness) -> bool
-    ensures { IsTrue result ↔ (likeness ≡ Likeness.Open) }
-{
-    match likeness {
-        Likeness::Open => true,
-        Likeness::Off | Likeness::On | Likeness::Alike => false,
-    }
-}
-
-fn is_alike(likeness: Likeness) -> bool
-    ensures { IsTrue result ↔ (likeness ≡ Likeness.Alike) }
-{
-    match likeness {
-        Likeness::Alike => true,
-        Likeness::Off | Likeness::On | Likeness::Open => false,
-    }
-}
 
 /// Opens each input with which the coil stays alike in two scans, whatever the values of all that are open; the others stay alike.
 fn open_inputs(
@@ -58,27 +40,27 @@ fn open_inputs(
     for input in 0..image.len() {
         image[input] = Likeness::Open;
         liken(program, state, image, now, work);
-        if is_open(work.value(coil)) {
+        if work.value(coil).is_open() {
             image[input] = Likeness::Alike;
         }
     }
 }
 
-/// The numbers of those variables whose likeness is to be the same.
+/// The numbers of those inputs that have to be the same in both scans.
 fn alike(alloc: Global, image: &[Likeness], inputs: &[usize]) -> Result<Vec<usize>, AllocError>
     requires { length image.now ≡ length inputs.now }
     ensures { IfOk result (λ v. v.items ≡ alike image.now inputs.now) }
 {
     let mut found: Vec<usize> = Vec::new(alloc);
     for input in 0..inputs.len() {
-        if is_alike(image[input]) {
+        if image[input].is_alike() {
             found.push(inputs[input])?;
         }
     }
     Ok(found)
 }
 
-/// The inputs that matter, among all of them, each of which is alike at first.
+/// The inputs that matter, among all of them. `image` has each one alike in both scans before the search.
 fn find_among(
     alloc: Global,
     program: &Program,
@@ -102,7 +84,7 @@ fn find_among(
     Ok(found)
 }
 
-/// The same where no rule refuses the coil.
+/// The inputs that matter to a coil that no rule refuses.
 fn find_relevant(
     alloc: Global,
     program: &Program,

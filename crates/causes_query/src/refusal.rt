@@ -13,6 +13,7 @@ use crate::limit::LISTED_LIMIT;
 use diagram_program::Program;
 use scan_cycle::State;
 
+/// Whether this is the number of a variable that is an input, so that it may be listed.
 fn is_input_variable(program: &Program, var: usize) -> bool
     ensures { result ≡ is_input_variable program.now var }
 {
@@ -22,12 +23,14 @@ fn is_input_variable(program: &Program, var: usize) -> bool
     }
 }
 
+/// Whether all listed numbers are those of inputs.
 fn are_input_variables(program: &Program, listed: &[usize]) -> bool
     ensures { result ≡ list_all (is_input_variable program.now) listed.now }
 {
     listed.iter().all(|var| is_input_variable(program, *var))
 }
 
+/// Whether an input is listed twice, so that a combination could give it two values.
 fn has_repetition(mut listed: &[usize]) -> bool
     ensures { result ≡ has_repetition listed.entry.now }
 {

@@ -1,6 +1,8 @@
 -- Why the arguments ask for no request.
 use Rattle.std.proofs.Common.{◌≡◌, ◌∙◌, ◌++◌, ℕ, Bool, true, false, List, [], ◌∷◌, Option, None, Some, ap, ap₂, arith, bytes_eq, codes, find, map, string_bytes, String, Global, ◌&&◌, get_or, inl, inr, is_some, option_and_then, option_map, refl, slice_get, subst, sym, unwrap_or}
 use Rattle.std.specs.List.{list_all}
+use Rattle.std.proofs.lemmas.Bool.{both_ways}
+use Rattle.std.proofs.lemmas.Slice.Eq.{bytes_eq-Decides}
 use Rattle.clap.specs.Words.{Row, Text, all_of, first_of}
 use Rattle.cli_options.specs.Pages.{is_fault_code}
 use Rattle.cli_arguments.specs.Asking.{Asks, AsksNone, HasCoil, HasControl, HasEvery, HasExcluded, HasNoTask, HasFlag, HasForm, HasInputs, HasLasting, HasNumber, HasOption, HasScans, HasSwitch, HasWatched, HasOrder, IsNamed, IsOfOneState, IsSingle, IsTable, MayGroup, MayHaveLimit, NamesCauses, NamesList, NamesTrace, input_texts, inputs_for}
@@ -46,26 +48,50 @@ no_order rows text is none o (inr h) =
     let same : h.0 ≡ text = cc in
     none o (rw same at h.2)
 
--- The subcommand that explains makes no request, and no other one explains.
-name_differs : {name other : List ℕ} → name ≡ other → get_or name 0 0 ≡ get_or other 0 0
-name_differs same = ap (λ (name : List ℕ). get_or name 0 0) same
+-- ---- requests by their subcommands
+-- what two words that differ can't have
+apart : {P : Type 0} (name other : List ℕ) → bytes_eq name other ≡ false → name ≡ other → P
+apart name other differ same = absurd (both_ways (bytes_eq name other) differ ((bytes_eq-Decides name other).1 same))
 
+abbrev NoneOfCauses : List ℕ → List Row → Type 0
+NoneOfCauses name rows =
+    ((list : ListRequest) (after upto : Option ℕ) → Asks name rows (Causes list after upto) → ⊥)
+    × ((list : ListRequest) (after upto : Option ℕ) → Asks name rows (Progress list after upto) → ⊥)
+    × ((list : ListRequest) (scans every : ℕ) (grouped : Bool) → Asks name rows (Held list scans every grouped) → ⊥)
+    × ((list : ListRequest) (grouping : Grouping) → Asks name rows (Groups list grouping) → ⊥)
+    × ((r : PossibleRequest) → Asks name rows (Possible r) → ⊥)
+    × ((list : ListRequest) (after : Option ℕ) (grouping : Option Grouping) → Asks name rows (Relevant list after grouping) → ⊥)
+
+-- A subcommand asks for the requests of its name alone.
+module _ (name : List ℕ) (rows : List Row)
+    (check : name ≡ codes "check" → (file : String Global) (warns : Bool) → Asks name rows (Check file warns) → ⊥)
+    (causes : name ≡ codes "causes" → NoneOfCauses name rows)
+    (show : name ≡ codes "show" → ((r : ShowRequest) → Asks name rows (Show r) → ⊥) × ((r : FilmRequest) → Asks name rows (Film r) → ⊥))
+    (sim : name ≡ codes "sim" → ((r : SimRequest) → Asks name rows (Sim r) → ⊥) × ((r : WatchRequest) → Asks name rows (Watch r) → ⊥) × ((r : WavesRequest) → Asks name rows (Waves r) → ⊥))
+    (uses : name ≡ codes "uses" → (file : String Global) → Asks name rows (Uses file) → ⊥)
+    (never : name ≡ codes "never" → (r : NeverRequest) → Asks name rows (Never r) → ⊥)
+    (import : name ≡ codes "import" → (opened control_on : Bool) (file : String Global) (hal : Option (String Global)) → Asks name rows (Import opened control_on file hal) → ⊥) where
+  by_subcommand : AsksNone name rows
+  by_subcommand (Check file warns) h = check h.0 file warns h
+  by_subcommand (Causes list after upto) h = (causes h.0).0 list after upto h
+  by_subcommand (Progress list after upto) h = (causes h.0).1 list after upto h
+  by_subcommand (Held list scans every grouped) h = (causes h.0).2 list scans every grouped h
+  by_subcommand (Groups list grouping) h = (causes h.0).3 list grouping h
+  by_subcommand (Possible r) h = (causes h.0).4 r h
+  by_subcommand (Relevant list after grouping) h = (causes h.0).5 list after grouping h
+  by_subcommand (Show r) h = (show h.0).0 r h
+  by_subcommand (Film r) h = (show h.0).1 r h
+  by_subcommand (Sim r) h = (sim h.0).0 r h
+  by_subcommand (Watch r) h = (sim h.0).1 r h
+  by_subcommand (Waves r) h = (sim h.0).2 r h
+  by_subcommand (Uses file) h = uses h.0 file h
+  by_subcommand (Never r) h = never h.0 r h
+  by_subcommand (Import opened control_on file hal) h = import h.0 opened control_on file hal h
+
+-- The subcommand that explains makes no request.
 explains_alone : (rows : List Row) → AsksNone (codes "explain") rows
-explains_alone rows (Check file warns) h = let other : 101 ≡ 99 = name_differs h.0 in absurd (omega (arith, other))
-explains_alone rows (Causes list after upto) h = let other : 101 ≡ 99 = name_differs h.0 in absurd (omega (arith, other))
-explains_alone rows (Progress list after upto) h = let other : 101 ≡ 99 = name_differs h.0 in absurd (omega (arith, other))
-explains_alone rows (Held list scans every grouped) h = let other : 101 ≡ 99 = name_differs h.0 in absurd (omega (arith, other))
-explains_alone rows (Groups list grouping) h = let other : 101 ≡ 99 = name_differs h.0 in absurd (omega (arith, other))
-explains_alone rows (Possible r) h = let other : 101 ≡ 99 = name_differs h.0 in absurd (omega (arith, other))
-explains_alone rows (Relevant list after grouping) h = let other : 101 ≡ 99 = name_differs h.0 in absurd (omega (arith, other))
-explains_alone rows (Show r) h = let other : 101 ≡ 115 = name_differs h.0 in absurd (omega (arith, other))
-explains_alone rows (Film r) h = let other : 101 ≡ 115 = name_differs h.0 in absurd (omega (arith, other))
-explains_alone rows (Sim r) h = let other : 101 ≡ 115 = name_differs h.0 in absurd (omega (arith, other))
-explains_alone rows (Watch r) h = let other : 101 ≡ 115 = name_differs h.0 in absurd (omega (arith, other))
-explains_alone rows (Waves r) h = let other : 101 ≡ 115 = name_differs h.0 in absurd (omega (arith, other))
-explains_alone rows (Uses file) h = let other : 101 ≡ 117 = name_differs h.0 in absurd (omega (arith, other))
-explains_alone rows (Never r) h = let other : 101 ≡ 110 = name_differs h.0 in absurd (omega (arith, other))
-explains_alone rows (Import opened control_on file hal) h = let other : 101 ≡ 105 = name_differs h.0 in absurd (omega (arith, other))
+explains_alone rows = by_subcommand (codes "explain") rows (apart (codes "explain") (codes "check") refl) (apart (codes "explain") (codes "causes") refl) (apart (codes "explain") (codes "show") refl)
+    (apart (codes "explain") (codes "sim") refl) (apart (codes "explain") (codes "uses") refl) (apart (codes "explain") (codes "never") refl) (apart (codes "explain") (codes "import") refl)
 
 abbrev pub all_codes : List (String Global) → Bool
 all_codes names = list_all (λ name. is_fault_code (string_bytes name)) names
@@ -84,23 +110,9 @@ no_pages rows names given none (Explain other) h =
     let bad = sym none ∙ same ∙ h.1.1 in
     cc
 
--- A subcommand asks for the requests of its name alone.
 pub no_check : (rows : List Row) → first_of (codes "file") rows ≡ None → AsksNone (codes "check") rows
-no_check rows none (Check file warns) h = let some = h.1 in cc
-no_check rows none (Causes list after upto) h = let other = h.0 in cc
-no_check rows none (Progress list after upto) h = let other = h.0 in cc
-no_check rows none (Held list scans every grouped) h = let other = h.0 in cc
-no_check rows none (Groups list grouping) h = let other = h.0 in cc
-no_check rows none (Possible r) h = let other = h.0 in cc
-no_check rows none (Relevant list after grouping) h = let other = h.0 in cc
-no_check rows none (Show r) h = let other = h.0 in cc
-no_check rows none (Film r) h = let other = h.0 in cc
-no_check rows none (Sim r) h = let other = h.0 in cc
-no_check rows none (Watch r) h = let other = h.0 in cc
-no_check rows none (Waves r) h = let other = h.0 in cc
-no_check rows none (Uses file) h = let other = h.0 in cc
-no_check rows none (Never r) h = let other : 99 ≡ 110 = ap (λ (name : List ℕ). get_or name 0 0) h.0 in absurd (omega (arith, other))
-no_check rows none (Import opened control_on file hal) h = let other : 99 ≡ 105 = ap (λ (name : List ℕ). get_or name 0 0) h.0 in absurd (omega (arith, other))
+no_check rows none = by_subcommand (codes "check") rows (λ _ file warns h. let some = h.1 in cc) (apart (codes "check") (codes "causes") refl) (apart (codes "check") (codes "show") refl)
+    (apart (codes "check") (codes "sim") refl) (apart (codes "check") (codes "uses") refl) (apart (codes "check") (codes "never") refl) (apart (codes "check") (codes "import") refl)
 
 pub only_causes : (rows : List Row)
     → ((list : ListRequest) (after upto : Option ℕ) → NamesCauses rows list after upto → ⊥)
@@ -109,21 +121,10 @@ pub only_causes : (rows : List Row)
     → ((r : PossibleRequest) → Asks (codes "causes") rows (Possible r) → ⊥)
     → ((list : ListRequest) (after : Option ℕ) (grouping : Option Grouping) → Asks (codes "causes") rows (Relevant list after grouping) → ⊥)
     → AsksNone (codes "causes") rows
-only_causes rows causes held groups possible relevant (Check file warns) h = let other = h.0 in cc
-only_causes rows causes held groups possible relevant (Causes list after upto) h = causes list after upto h.1
-only_causes rows causes held groups possible relevant (Progress list after upto) h = causes list after upto h.1
-only_causes rows causes held groups possible relevant (Held list scans every grouped) h = held list scans every grouped h
-only_causes rows causes held groups possible relevant (Groups list grouping) h = groups list grouping h
-only_causes rows causes held groups possible relevant (Possible r) h = possible r h
-only_causes rows causes held groups possible relevant (Relevant list after grouping) h = relevant list after grouping h
-only_causes rows causes held groups possible relevant (Show r) h = let other = h.0 in cc
-only_causes rows causes held groups possible relevant (Film r) h = let other = h.0 in cc
-only_causes rows causes held groups possible relevant (Sim r) h = let other = h.0 in cc
-only_causes rows causes held groups possible relevant (Watch r) h = let other = h.0 in cc
-only_causes rows causes held groups possible relevant (Waves r) h = let other = h.0 in cc
-only_causes rows causes held groups possible relevant (Uses file) h = let other = h.0 in cc
-only_causes rows causes held groups possible relevant (Never r) h = let other : 99 ≡ 110 = ap (λ (name : List ℕ). get_or name 0 0) h.0 in absurd (omega (arith, other))
-only_causes rows causes held groups possible relevant (Import opened control_on file hal) h = let other : 99 ≡ 105 = ap (λ (name : List ℕ). get_or name 0 0) h.0 in absurd (omega (arith, other))
+only_causes rows causes held groups possible relevant =
+    by_subcommand (codes "causes") rows (apart (codes "causes") (codes "check") refl)
+    (λ _. ((λ list after upto h. causes list after upto h.1), (λ list after upto h. causes list after upto h.1), held, groups, possible, relevant))
+    (apart (codes "causes") (codes "show") refl) (apart (codes "causes") (codes "sim") refl) (apart (codes "causes") (codes "uses") refl) (apart (codes "causes") (codes "never") refl) (apart (codes "causes") (codes "import") refl)
 
 -- What some state switches on is asked for by a flag, and the other lists without it.
 only_possible : (rows : List Row) → HasFlag (codes "any") rows → ((r : PossibleRequest) → Asks (codes "causes") rows (Possible r) → ⊥)
@@ -148,78 +149,30 @@ pub only_show : (rows : List Row)
     → ((r : ShowRequest) → Asks (codes "show") rows (Show r) → ⊥)
     → ((r : FilmRequest) → Asks (codes "show") rows (Film r) → ⊥)
     → AsksNone (codes "show") rows
-only_show rows show film (Check file warns) h = let other = h.0 in cc
-only_show rows show film (Causes list after upto) h = let other = h.0 in cc
-only_show rows show film (Progress list after upto) h = let other = h.0 in cc
-only_show rows show film (Held list scans every grouped) h = let other = h.0 in cc
-only_show rows show film (Groups list grouping) h = let other = h.0 in cc
-only_show rows show film (Possible r) h = let other = h.0 in cc
-only_show rows show film (Relevant list after grouping) h = let other = h.0 in cc
-only_show rows show film (Show r) h = show r h
-only_show rows show film (Film r) h = film r h
-only_show rows show film (Sim r) h = let other = h.0 in cc
-only_show rows show film (Watch r) h = let other = h.0 in cc
-only_show rows show film (Waves r) h = let other = h.0 in cc
-only_show rows show film (Uses file) h = let other : 115 ≡ 117 = ap (λ (name : List ℕ). get_or name 0 0) h.0 in absurd (omega (arith, other))
-only_show rows show film (Never r) h = let other : 115 ≡ 110 = ap (λ (name : List ℕ). get_or name 0 0) h.0 in absurd (omega (arith, other))
-only_show rows show film (Import opened control_on file hal) h = let other : 115 ≡ 105 = ap (λ (name : List ℕ). get_or name 0 0) h.0 in absurd (omega (arith, other))
+only_show rows show film =
+    by_subcommand (codes "show") rows (apart (codes "show") (codes "check") refl) (apart (codes "show") (codes "causes") refl) (λ _. (show, film))
+    (apart (codes "show") (codes "sim") refl) (apart (codes "show") (codes "uses") refl) (apart (codes "show") (codes "never") refl) (apart (codes "show") (codes "import") refl)
 
 pub only_sim : (rows : List Row)
     → ((r : SimRequest) → Asks (codes "sim") rows (Sim r) → ⊥)
     → ((r : WatchRequest) → Asks (codes "sim") rows (Watch r) → ⊥)
     → ((r : WavesRequest) → Asks (codes "sim") rows (Waves r) → ⊥)
     → AsksNone (codes "sim") rows
-only_sim rows sim watch waves (Check file warns) h = let other = h.0 in cc
-only_sim rows sim watch waves (Causes list after upto) h = let other = h.0 in cc
-only_sim rows sim watch waves (Progress list after upto) h = let other = h.0 in cc
-only_sim rows sim watch waves (Held list scans every grouped) h = let other = h.0 in cc
-only_sim rows sim watch waves (Groups list grouping) h = let other = h.0 in cc
-only_sim rows sim watch waves (Possible r) h = let other = h.0 in cc
-only_sim rows sim watch waves (Relevant list after grouping) h = let other = h.0 in cc
-only_sim rows sim watch waves (Show r) h = let other = h.0 in cc
-only_sim rows sim watch waves (Film r) h = let other = h.0 in cc
-only_sim rows sim watch waves (Sim r) h = sim r h
-only_sim rows sim watch waves (Watch r) h = watch r h
-only_sim rows sim watch waves (Waves r) h = waves r h
-only_sim rows sim watch waves (Uses file) h = let other : 115 ≡ 117 = ap (λ (name : List ℕ). get_or name 0 0) h.0 in absurd (omega (arith, other))
-only_sim rows sim watch waves (Never r) h = let other : 115 ≡ 110 = ap (λ (name : List ℕ). get_or name 0 0) h.0 in absurd (omega (arith, other))
-only_sim rows sim watch waves (Import opened control_on file hal) h = let other : 115 ≡ 105 = ap (λ (name : List ℕ). get_or name 0 0) h.0 in absurd (omega (arith, other))
+only_sim rows sim watch waves =
+    by_subcommand (codes "sim") rows (apart (codes "sim") (codes "check") refl) (apart (codes "sim") (codes "causes") refl) (apart (codes "sim") (codes "show") refl)
+    (λ _. (sim, watch, waves)) (apart (codes "sim") (codes "uses") refl) (apart (codes "sim") (codes "never") refl) (apart (codes "sim") (codes "import") refl)
 
 pub no_uses : (rows : List Row) → first_of (codes "file") rows ≡ None → AsksNone (codes "uses") rows
-no_uses rows none (Check file warns) h = let other = h.0 in cc
-no_uses rows none (Causes list after upto) h = let other = h.0 in cc
-no_uses rows none (Progress list after upto) h = let other = h.0 in cc
-no_uses rows none (Held list scans every grouped) h = let other = h.0 in cc
-no_uses rows none (Groups list grouping) h = let other = h.0 in cc
-no_uses rows none (Possible r) h = let other = h.0 in cc
-no_uses rows none (Relevant list after grouping) h = let other = h.0 in cc
-no_uses rows none (Show r) h = let other : 117 ≡ 115 = ap (λ (name : List ℕ). get_or name 0 0) h.0 in absurd (omega (arith, other))
-no_uses rows none (Film r) h = let other : 117 ≡ 115 = ap (λ (name : List ℕ). get_or name 0 0) h.0 in absurd (omega (arith, other))
-no_uses rows none (Sim r) h = let other : 117 ≡ 115 = ap (λ (name : List ℕ). get_or name 0 0) h.0 in absurd (omega (arith, other))
-no_uses rows none (Watch r) h = let other : 117 ≡ 115 = ap (λ (name : List ℕ). get_or name 0 0) h.0 in absurd (omega (arith, other))
-no_uses rows none (Waves r) h = let other : 117 ≡ 115 = ap (λ (name : List ℕ). get_or name 0 0) h.0 in absurd (omega (arith, other))
-no_uses rows none (Uses file) h = let some = h.1 in cc
-no_uses rows none (Never r) h = let other : 117 ≡ 110 = ap (λ (name : List ℕ). get_or name 0 0) h.0 in absurd (omega (arith, other))
-no_uses rows none (Import opened control_on file hal) h = let other : 117 ≡ 105 = ap (λ (name : List ℕ). get_or name 0 0) h.0 in absurd (omega (arith, other))
+no_uses rows none =
+    by_subcommand (codes "uses") rows (apart (codes "uses") (codes "check") refl) (apart (codes "uses") (codes "causes") refl) (apart (codes "uses") (codes "show") refl) (apart (codes "uses") (codes "sim") refl)
+    (λ _ file h. let some = h.1 in cc) (apart (codes "uses") (codes "never") refl) (apart (codes "uses") (codes "import") refl)
 
 only_import : (rows : List Row)
     → ((opened control_on : Bool) (file : String Global) (hal : Option (String Global)) → Asks (codes "import") rows (Import opened control_on file hal) → ⊥)
     → AsksNone (codes "import") rows
-only_import rows import (Check file warns) h = let other : 105 ≡ 99 = name_differs h.0 in absurd (omega (arith, other))
-only_import rows import (Causes list after upto) h = let other : 105 ≡ 99 = name_differs h.0 in absurd (omega (arith, other))
-only_import rows import (Progress list after upto) h = let other : 105 ≡ 99 = name_differs h.0 in absurd (omega (arith, other))
-only_import rows import (Held list scans every grouped) h = let other : 105 ≡ 99 = name_differs h.0 in absurd (omega (arith, other))
-only_import rows import (Groups list grouping) h = let other : 105 ≡ 99 = name_differs h.0 in absurd (omega (arith, other))
-only_import rows import (Possible r) h = let other : 105 ≡ 99 = name_differs h.0 in absurd (omega (arith, other))
-only_import rows import (Relevant list after grouping) h = let other : 105 ≡ 99 = name_differs h.0 in absurd (omega (arith, other))
-only_import rows import (Show r) h = let other : 105 ≡ 115 = name_differs h.0 in absurd (omega (arith, other))
-only_import rows import (Film r) h = let other : 105 ≡ 115 = name_differs h.0 in absurd (omega (arith, other))
-only_import rows import (Sim r) h = let other : 105 ≡ 115 = name_differs h.0 in absurd (omega (arith, other))
-only_import rows import (Watch r) h = let other : 105 ≡ 115 = name_differs h.0 in absurd (omega (arith, other))
-only_import rows import (Waves r) h = let other : 105 ≡ 115 = name_differs h.0 in absurd (omega (arith, other))
-only_import rows import (Uses file) h = let other : 105 ≡ 117 = name_differs h.0 in absurd (omega (arith, other))
-only_import rows import (Never r) h = let other : 105 ≡ 110 = name_differs h.0 in absurd (omega (arith, other))
-only_import rows import (Import opened control_on file hal) h = import opened control_on file hal h
+only_import rows import =
+    by_subcommand (codes "import") rows (apart (codes "import") (codes "check") refl) (apart (codes "import") (codes "causes") refl) (apart (codes "import") (codes "show") refl)
+    (apart (codes "import") (codes "sim") refl) (apart (codes "import") (codes "uses") refl) (apart (codes "import") (codes "never") refl) (λ _. import)
 
 pub no_import : (rows : List Row) → first_of (codes "file") rows ≡ None → AsksNone (codes "import") rows
 no_import rows none = only_import rows (λ opened control_on file hal h. let some = h.3 in cc)
@@ -235,21 +188,9 @@ no_control_of rows text is other false h = let bad = sym is ∙ h in cc
 pub only_never : (rows : List Row)
     → ((r : NeverRequest) → Asks (codes "never") rows (Never r) → ⊥)
     → AsksNone (codes "never") rows
-only_never rows never (Check file warns) h = let other : 110 ≡ 99 = ap (λ (name : List ℕ). get_or name 0 0) h.0 in absurd (omega (arith, other))
-only_never rows never (Causes list after upto) h = let other : 110 ≡ 99 = ap (λ (name : List ℕ). get_or name 0 0) h.0 in absurd (omega (arith, other))
-only_never rows never (Progress list after upto) h = let other : 110 ≡ 99 = ap (λ (name : List ℕ). get_or name 0 0) h.0 in absurd (omega (arith, other))
-only_never rows never (Held list scans every grouped) h = let other : 110 ≡ 99 = ap (λ (name : List ℕ). get_or name 0 0) h.0 in absurd (omega (arith, other))
-only_never rows never (Groups list grouping) h = let other : 110 ≡ 99 = ap (λ (name : List ℕ). get_or name 0 0) h.0 in absurd (omega (arith, other))
-only_never rows never (Possible r) h = let other : 110 ≡ 99 = ap (λ (name : List ℕ). get_or name 0 0) h.0 in absurd (omega (arith, other))
-only_never rows never (Relevant list after grouping) h = let other : 110 ≡ 99 = ap (λ (name : List ℕ). get_or name 0 0) h.0 in absurd (omega (arith, other))
-only_never rows never (Show r) h = let other : 110 ≡ 115 = ap (λ (name : List ℕ). get_or name 0 0) h.0 in absurd (omega (arith, other))
-only_never rows never (Film r) h = let other : 110 ≡ 115 = ap (λ (name : List ℕ). get_or name 0 0) h.0 in absurd (omega (arith, other))
-only_never rows never (Sim r) h = let other : 110 ≡ 115 = ap (λ (name : List ℕ). get_or name 0 0) h.0 in absurd (omega (arith, other))
-only_never rows never (Watch r) h = let other : 110 ≡ 115 = ap (λ (name : List ℕ). get_or name 0 0) h.0 in absurd (omega (arith, other))
-only_never rows never (Waves r) h = let other : 110 ≡ 115 = ap (λ (name : List ℕ). get_or name 0 0) h.0 in absurd (omega (arith, other))
-only_never rows never (Uses file) h = let other : 110 ≡ 117 = ap (λ (name : List ℕ). get_or name 0 0) h.0 in absurd (omega (arith, other))
-only_never rows never (Never r) h = never r h
-only_never rows never (Import opened control_on file hal) h = let other : 110 ≡ 105 = ap (λ (name : List ℕ). get_or name 0 0) h.0 in absurd (omega (arith, other))
+only_never rows never =
+    by_subcommand (codes "never") rows (apart (codes "never") (codes "check") refl) (apart (codes "never") (codes "causes") refl) (apart (codes "never") (codes "show") refl)
+    (apart (codes "never") (codes "sim") refl) (apart (codes "never") (codes "uses") refl) (λ _. never) (apart (codes "never") (codes "import") refl)
 
 lasts : (rows : List Row) (scans every : ℕ) → HasScans scans every rows → (o : Option Lasting) × MayLast o rows
 lasts rows scans every (inl h) = (Some (Count scans), h)
@@ -402,15 +343,13 @@ no_relevant_groups_of_grouping rows flag grouped none =
 
 -- One form is asked for.
 one_form : (rows : List Row) (a b : GroupFormat) → HasForm a rows → HasForm b rows → a ≡ b
-one_form rows Table Table h k = refl
 one_form rows Table Terms h k = absurd (h.0 k.0)
 one_form rows Table Statement h k = absurd (h.1 k.1)
 one_form rows Terms Table h k = absurd (k.0 h.0)
-one_form rows Terms Terms h k = refl
 one_form rows Terms Statement h k = absurd (k.0 h.0)
 one_form rows Statement Table h k = absurd (k.1 h.1)
 one_form rows Statement Terms h k = absurd (h.0 k.0)
-one_form rows Statement Statement h k = refl
+one_form rows _ _ h k = refl
 
 pub no_grouping_of_cut : (rows : List Row) (form : GroupFormat) → HasForm form rows → (IsWhole form rows → ⊥) → (g : Grouping) → HasGrouping rows g → ⊥
 no_grouping_of_cut rows form has cut g h = let same = one_form rows g.form form h.0 has in cut (rw same at h.2)

@@ -15,6 +15,7 @@ use crate::showing::lists_inputs;
 use clap::ArgMatches;
 use std::alloc::Global;
 
+/// The request of `causes`: which list is asked for, by its flags, or a fault of usage where they don't go together.
 pub(crate) fn causes_request(alloc: Global, found: &ArgMatches<'_>) -> Result<Request, WordFault>
     ensures ok { IfOk result (Asks (codes "causes") (rows_of (found_of found.now))) }
     ensures err { IfErr result (UsageWhere (AsksNone (codes "causes") (rows_of (found_of found.now)))) }
@@ -32,7 +33,7 @@ pub(crate) fn causes_request(alloc: Global, found: &ArgMatches<'_>) -> Result<Re
     one_state_request(alloc, found)
 }
 
-/// Whether it is said which states count, that every one is meant, or how long a search is.
+/// Whether one of the flags is given that go with `--any` alone: OFF, forced, reachable, or how many looks.
 fn names_states(found: &ArgMatches<'_>) -> bool
     ensures none { result ≡ false → NamesNoStates (rows_of (found_of found.now)) }
     ensures some { result ≡ true → NamesNoStates (rows_of (found_of found.now)) → ⊥ }
@@ -43,6 +44,7 @@ fn names_states(found: &ArgMatches<'_>) -> bool
         || is_given(found, "looks")
 }
 
+/// The request for a list over one given state: of one scan or of several.
 fn one_state_request(alloc: Global, found: &ArgMatches<'_>) -> Result<Request, WordFault>
     requires one_state { IsOfOneState (rows_of (found_of found.now)) }
     requires named { HasFlag (codes "relevant") (rows_of (found_of found.now)) → ⊥ }
@@ -55,6 +57,7 @@ fn one_state_request(alloc: Global, found: &ArgMatches<'_>) -> Result<Request, W
     }
 }
 
+/// The request for a list of one scan: by rows or by groups.
 fn one_scan_request(alloc: Global, found: &ArgMatches<'_>) -> Result<Request, WordFault>
     requires one_state { IsOfOneState (rows_of (found_of found.now)) }
     requires named { HasFlag (codes "relevant") (rows_of (found_of found.now)) → ⊥ }
@@ -68,6 +71,7 @@ fn one_scan_request(alloc: Global, found: &ArgMatches<'_>) -> Result<Request, Wo
     list_request(alloc, found)
 }
 
+/// The request for a list over any state (`--any`).
 fn possible_request(alloc: Global, found: &ArgMatches<'_>) -> Result<Request, WordFault>
     requires { HasFlag (codes "any") (rows_of (found_of found.now)) }
     ensures ok { IfOk result (Asks (codes "causes") (rows_of (found_of found.now))) }
@@ -107,7 +111,8 @@ fn possible_request(alloc: Global, found: &ArgMatches<'_>) -> Result<Request, Wo
     }))
 }
 
-/// Whether a state, a moment, several scans, a number to begin after or to end at, lines of how far the list is, or the inputs that matter in one state are asked for.
+/// Whether something is asked for that doesn't go with `--any`: a state, a moment, several scans, a part of a list, progress, or
+/// the inputs that matter.
 fn is_bound(found: &ArgMatches<'_>) -> bool
     ensures none { result ≡ false → IsOfAnyState (rows_of (found_of found.now)) }
     ensures some { result ≡ true → IsOfAnyState (rows_of (found_of found.now)) → ⊥ }
@@ -118,6 +123,7 @@ fn is_bound(found: &ArgMatches<'_>) -> bool
         || is_set(found, "relevant")
 }
 
+/// The request for the rows of one scan, all of them or a part, with or without progress.
 fn list_request(alloc: Global, found: &ArgMatches<'_>) -> Result<Request, WordFault>
     requires one_state { IsOfOneState (rows_of (found_of found.now)) }
     requires named { HasFlag (codes "relevant") (rows_of (found_of found.now)) → ⊥ }
@@ -140,6 +146,7 @@ fn list_request(alloc: Global, found: &ArgMatches<'_>) -> Result<Request, WordFa
     Ok(Request::Causes { list, after, upto })
 }
 
+/// The request for a list over the inputs that matter (`--relevant`).
 fn relevant_request(alloc: Global, found: &ArgMatches<'_>) -> Result<Request, WordFault>
     requires one_state { IsOfOneState (rows_of (found_of found.now)) }
     requires relevant { HasFlag (codes "relevant") (rows_of (found_of found.now)) }

@@ -56,6 +56,7 @@ pub(crate) fn number(found: &ArgMatches<'_>, id: &str) -> Result<Option<u64>, Wo
     }
 }
 
+/// The text of an argument that has to be given.
 pub(crate) fn text(alloc: Global, found: &ArgMatches<'_>, id: &str) -> Result<String, WordFault>
     ensures ok { IfOk result (λ s. first_of id.now (rows_of (found_of found.now)) ≡ Some (string_bytes s)) }
     ensures err { IfErr result (UsageWhere (first_of id.now (rows_of (found_of found.now)) ≡ None)) }
@@ -66,6 +67,7 @@ pub(crate) fn text(alloc: Global, found: &ArgMatches<'_>, id: &str) -> Result<St
     }
 }
 
+/// The texts of an argument that can be given several times.
 pub(crate) fn texts(
     alloc: Global,
     found: &ArgMatches<'_>,
@@ -80,6 +82,7 @@ pub(crate) fn texts(
     }
 }
 
+/// Copies of several texts, which the request keeps.
 fn copies_of(alloc: Global, all: &[&str]) -> Result<Vec<String>, WordFault>
     ensures ok { IfOk result (λ v. map string_bytes v.items ≡ map (λ s. s.now) all.now) }
     ensures err { IfErr result (λ e. e ≡ WordFault.Memory) }
@@ -94,6 +97,7 @@ fn copies_of(alloc: Global, all: &[&str]) -> Result<Vec<String>, WordFault>
     Ok(copies)
 }
 
+/// A copy of a text, which the request keeps.
 pub(crate) fn copied(alloc: Global, text: &str) -> Result<String, WordFault>
     ensures ok { IfOk result (λ s. string_bytes s ≡ text.now) }
     ensures err { IfErr result (λ e. e ≡ WordFault.Memory) }

@@ -1,4 +1,4 @@
-//! How causes are grouped.
+//! The requests for groups of causes: their form, and the order of their inputs.
 
 ghost use Rattle.std.specs.Prelude.{◌≡◌, [], true, false, codes, IfOk, IfErr, None, Some};
 ghost use Rattle.clap.specs.Words.{found_of, rows_of};
@@ -12,7 +12,7 @@ use crate::request::{GroupFormat, Grouping, InputOrder, Request, WordFault};
 use clap::ArgMatches;
 use std::alloc::Global;
 
-/// A form and an order are those of the groups of one scan in one state.
+/// Refuses the flags for the form and the order of groups, which go with the groups of one scan in one state alone.
 pub(crate) fn refuse_grouping(found: &ArgMatches<'_>) -> Result<(), WordFault>
     ensures ok { IfOk result (λ u. HasForm GroupFormat.Table (rows_of (found_of found.now)) × HasOrder InputOrder.Given (rows_of (found_of found.now))) }
     ensures err { IfErr result (UsageWhere (HasForm GroupFormat.Table (rows_of (found_of found.now)) → HasOrder InputOrder.Given (rows_of (found_of found.now)) → ⊥)) }
@@ -26,6 +26,7 @@ pub(crate) fn refuse_grouping(found: &ArgMatches<'_>) -> Result<(), WordFault>
     }
 }
 
+/// The request for the groups of one scan.
 pub(crate) fn groups_request(alloc: Global, found: &ArgMatches<'_>) -> Result<Request, WordFault>
     requires one_state { IsOfOneState (rows_of (found_of found.now)) }
     requires named { HasFlag (codes "relevant") (rows_of (found_of found.now)) → ⊥ }
@@ -43,6 +44,7 @@ pub(crate) fn groups_request(alloc: Global, found: &ArgMatches<'_>) -> Result<Re
     Ok(Request::Groups { list, grouping })
 }
 
+/// The request for the groups over the inputs that matter.
 pub(crate) fn relevant_groups(alloc: Global, found: &ArgMatches<'_>) -> Result<Request, WordFault>
     requires one_state { IsOfOneState (rows_of (found_of found.now)) }
     requires relevant { HasFlag (codes "relevant") (rows_of (found_of found.now)) }
@@ -66,7 +68,7 @@ pub(crate) fn relevant_groups(alloc: Global, found: &ArgMatches<'_>) -> Result<R
     })
 }
 
-/// How the groups are asked for.
+/// The form and the order in which groups are asked for; a statement that would be cut off is refused.
 fn grouping_of(found: &ArgMatches<'_>) -> Result<Grouping, WordFault>
     ensures ok { IfOk result (HasGrouping (rows_of (found_of found.now))) }
     ensures err { IfErr result (UsageWhere ((g : Grouping) → HasGrouping (rows_of (found_of found.now)) g → ⊥)) }
@@ -80,7 +82,7 @@ fn grouping_of(found: &ArgMatches<'_>) -> Result<Grouping, WordFault>
     Ok(Grouping { form, order })
 }
 
-/// Whether a statement is to end after so many groups.
+/// Whether a limit is asked for with a statement: cut off, it would say something else.
 fn is_cut(found: &ArgMatches<'_>, form: GroupFormat) -> bool
     ensures whole { result ≡ false → IsWhole form (rows_of (found_of found.now)) }
     ensures cut { result ≡ true → IsWhole form (rows_of (found_of found.now)) → ⊥ }
@@ -91,7 +93,7 @@ fn is_cut(found: &ArgMatches<'_>, form: GroupFormat) -> bool
     }
 }
 
-/// The form that the flags ask for.
+/// The form in which groups are asked for by a flag: a table, terms or a statement.
 fn form_of(found: &ArgMatches<'_>) -> Result<GroupFormat, WordFault>
     ensures ok { IfOk result (λ f. HasForm f (rows_of (found_of found.now))) }
     ensures err { IfErr result (UsageWhere ((f : GroupFormat) → HasForm f (rows_of (found_of found.now)) → ⊥)) }
@@ -106,7 +108,7 @@ fn form_of(found: &ArgMatches<'_>) -> Result<GroupFormat, WordFault>
     }
 }
 
-/// The order of the inputs that an option asks for.
+/// The order of the inputs that `--order` asks for.
 fn order_of(found: &ArgMatches<'_>) -> Result<InputOrder, WordFault>
     ensures ok { IfOk result (λ o. HasOrder o (rows_of (found_of found.now))) }
     ensures err { IfErr result (UsageWhere ((o : InputOrder) → HasOrder o (rows_of (found_of found.now)) → ⊥)) }
@@ -117,7 +119,7 @@ fn order_of(found: &ArgMatches<'_>) -> Result<InputOrder, WordFault>
     }
 }
 
-/// The order with this name.
+/// The order of the inputs with this name, as the option `--order` has it.
 fn order_named(name: &str) -> Result<InputOrder, WordFault>
     ensures ok { IfOk result (IsNamed name.now) }
     ensures err { IfErr result (UsageWhere ((o : InputOrder) → IsNamed name.now o → ⊥)) }

@@ -1,4 +1,4 @@
-//! How long several scans last.
+//! The requests for several scans: how long they last.
 
 ghost use Rattle.std.specs.Prelude.{List, codes, IfOk, IfErr, None, Option, Some};
 ghost use Rattle.clap.specs.Words.{Row, found_of, rows_of};
@@ -35,7 +35,7 @@ pub(crate) fn lasting_of(found: &ArgMatches<'_>) -> Result<Option<Lasting>, Word
     }
 }
 
-/// How many scans are made: so many, or those up to a time after the first one's moment, and at it.
+/// How many scans are made: the number that is asked for, or those from the first moment to a time after it, both ends included.
 pub(crate) fn count(lasting: Lasting, every: u64) -> u64
     ensures { (rows : List Row) → HasLasting lasting rows → HasScans result every rows }
 {
@@ -48,6 +48,7 @@ pub(crate) fn count(lasting: Lasting, every: u64) -> u64
     }
 }
 
+/// The request for a list over several scans with held inputs.
 pub(crate) fn held_request(
     alloc: Global,
     found: &ArgMatches<'_>,

@@ -14,7 +14,7 @@ use std::alloc::Global;
 /// The time from each scan to the next where no word says otherwise, in ms.
 const EVERY: u64 = 10;
 
-/// The time from each scan to the next.
+/// The time from each scan to the next, in ms.
 pub(crate) fn every_of(found: &ArgMatches<'_>) -> Result<u64, WordFault>
     ensures ok { IfOk result (λ e. HasEvery e (rows_of (found_of found.now))) }
     ensures err { IfErr result (UsageWhere ((e : ℕ) → HasEvery e (rows_of (found_of found.now)) → ⊥)) }
@@ -71,6 +71,7 @@ pub(crate) struct NamedScan {
     pub inputs: Vec<String>,
 }
 
+/// The scan that is named: its program, its state, its moment and its inputs.
 pub(crate) fn scan_of(alloc: Global, found: &ArgMatches<'_>) -> Result<NamedScan, WordFault>
     ensures ok { IfOk result (NamesScan (rows_of (found_of found.now))) }
     ensures err { IfErr result (UsageWhere ((s : NamedScan) → NamesScan (rows_of (found_of found.now)) s → ⊥)) }
@@ -94,6 +95,7 @@ pub(crate) struct Sources {
     pub file: String,
 }
 
+/// The files of the program and of the state.
 pub(crate) fn sources_of(alloc: Global, found: &ArgMatches<'_>) -> Result<Sources, WordFault>
     ensures ok { IfOk result (HasSources (rows_of (found_of found.now))) }
     ensures err { IfErr result (UsageWhere (first_of (codes "file") (rows_of (found_of found.now)) ≡ None)) }
@@ -110,6 +112,7 @@ struct InputNames {
     names: Vec<String>,
 }
 
+/// The listed inputs: their names, or all inputs by a flag, but not both.
 fn inputs_of(alloc: Global, found: &ArgMatches<'_>) -> Result<InputNames, WordFault>
     ensures ok { IfOk result (λ l. HasInputs (rows_of (found_of found.now)) l.all (map string_bytes l.names.items)) }
     ensures err { IfErr result (UsageWhere ((all : Bool) (names : List Text) → HasInputs (rows_of (found_of found.now)) all names → ⊥)) }
@@ -122,7 +125,7 @@ fn inputs_of(alloc: Global, found: &ArgMatches<'_>) -> Result<InputNames, WordFa
     Ok(InputNames { all, names })
 }
 
-/// The names of the inputs. Where each coil is meant none is named, so what stands in its place is the first input.
+/// The names of the listed inputs. With `--all-coils` no coil is named, so what is in its place is the first input.
 fn input_names(alloc: Global, found: &ArgMatches<'_>) -> Result<Vec<String>, WordFault>
     ensures ok { IfOk result (λ v. input_texts (rows_of (found_of found.now)) ≡ map string_bytes v.items) }
     ensures err { IfErr result (λ e. e ≡ WordFault.Memory) }
@@ -137,7 +140,7 @@ fn input_names(alloc: Global, found: &ArgMatches<'_>) -> Result<Vec<String>, Wor
     }
 }
 
-/// These texts, and then copies of others.
+/// These texts, and after them copies of others.
 fn with_copies(alloc: Global, texts: Vec<String>, others: &[&str]) -> Result<Vec<String>, WordFault>
     ensures ok { IfOk result (λ v. map string_bytes v.items ≡ map string_bytes texts.items ++ map (λ s. s.now) others.now) }
     ensures err { IfErr result (λ e. e ≡ WordFault.Memory) }
@@ -152,7 +155,7 @@ fn with_copies(alloc: Global, texts: Vec<String>, others: &[&str]) -> Result<Vec
     Ok(all)
 }
 
-/// Whether the list is to end at a number, or to tell up to which one it is written.
+/// Whether a list is to end at a number, or to report how far it is.
 pub(crate) fn names_end(found: &ArgMatches<'_>) -> bool
     ensures none { result ≡ false → NamesNoEnd (rows_of (found_of found.now)) }
     ensures some { result ≡ true → NamesNoEnd (rows_of (found_of found.now)) → ⊥ }
@@ -160,7 +163,7 @@ pub(crate) fn names_end(found: &ArgMatches<'_>) -> bool
     is_given(found, "upto") || is_set(found, "progress")
 }
 
-/// Whether the list is to begin after a number or to end at one, or to tell how far it is.
+/// Whether a list is to begin after a number, to end at one, or to report how far it is.
 pub(crate) fn is_part(found: &ArgMatches<'_>) -> bool
     ensures whole { result ≡ false → IsUncut (rows_of (found_of found.now)) }
     ensures part { result ≡ true → IsUncut (rows_of (found_of found.now)) → ⊥ }

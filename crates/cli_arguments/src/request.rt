@@ -106,7 +106,7 @@ pub struct NeverRequest {
     pub state: Option<String>,
     /// What is to be shut out for ever.
     pub excluded: Excluded,
-    /// Whether the number of rows isn't told.
+    /// Whether the line with the number of rows is left out.
     pub quiet: bool,
     /// The file of the program text.
     pub file: String,

@@ -13,6 +13,7 @@ use crate::simulating::{Played, played_of};
 use clap::ArgMatches;
 use std::alloc::Global;
 
+/// The request of `show`: the drawing of one scan, or the film of a stimulus.
 pub(crate) fn show_request(alloc: Global, found: &ArgMatches<'_>) -> Result<Request, WordFault>
     ensures ok { IfOk result (Asks (codes "show") (rows_of (found_of found.now))) }
     ensures err { IfErr result (UsageWhere (AsksNone (codes "show") (rows_of (found_of found.now)))) }
@@ -23,6 +24,7 @@ pub(crate) fn show_request(alloc: Global, found: &ArgMatches<'_>) -> Result<Requ
     scan_request(alloc, found)
 }
 
+/// The request for the drawing of one scan.
 fn scan_request(alloc: Global, found: &ArgMatches<'_>) -> Result<Request, WordFault>
     requires { HasOption (codes "stimulus") (rows_of (found_of found.now)) None }
     ensures ok { IfOk result (Asks (codes "show") (rows_of (found_of found.now))) }
@@ -50,6 +52,7 @@ fn scan_request(alloc: Global, found: &ArgMatches<'_>) -> Result<Request, WordFa
     }))
 }
 
+/// The request for the film of a stimulus, which takes its moments and inputs from the records.
 fn film_request(alloc: Global, found: &ArgMatches<'_>) -> Result<Request, WordFault>
     requires { HasOption (codes "stimulus") (rows_of (found_of found.now)) None → ⊥ }
     ensures ok { IfOk result (Asks (codes "show") (rows_of (found_of found.now))) }
@@ -75,7 +78,7 @@ fn film_request(alloc: Global, found: &ArgMatches<'_>) -> Result<Request, WordFa
     }))
 }
 
-/// Whether a moment, a number or inputs are given.
+/// Whether one scan is described: by a moment, a number or inputs.
 fn names_scan(found: &ArgMatches<'_>) -> bool
     ensures none { result ≡ false → IsOfRecords (rows_of (found_of found.now)) }
     ensures some { result ≡ true → IsOfRecords (rows_of (found_of found.now)) → ⊥ }
@@ -102,7 +105,7 @@ fn names_inputs(found: &ArgMatches<'_>) -> bool
     is_given(found, "all-coils") && is_given(found, "coil")
 }
 
-/// How the flag wants a drawing to be written.
+/// Whether a drawing is written as text or as a page of HTML.
 fn medium_of(found: &ArgMatches<'_>) -> Medium
     ensures { HasMedium result (rows_of (found_of found.now)) }
 {

@@ -12,6 +12,7 @@ use crate::request::{Request, SimRequest, WatchRequest, WavesRequest, WordFault}
 use clap::ArgMatches;
 use std::alloc::Global;
 
+/// The request of `sim`: a trace, a trace with watched columns, or a waveform.
 pub(crate) fn sim_request(alloc: Global, found: &ArgMatches<'_>) -> Result<Request, WordFault>
     ensures ok { IfOk result (Asks (codes "sim") (rows_of (found_of found.now))) }
     ensures err { IfErr result (UsageWhere (AsksNone (codes "sim") (rows_of (found_of found.now)))) }
@@ -25,7 +26,7 @@ pub(crate) fn sim_request(alloc: Global, found: &ArgMatches<'_>) -> Result<Reque
     trace_request(alloc, found)
 }
 
-/// Whether something is watched.
+/// Whether columns beside the outputs are asked for.
 fn is_watched(found: &ArgMatches<'_>) -> bool
     ensures none { result ≡ false → HasWatched (rows_of (found_of found.now)) false [] }
     ensures some { result ≡ true → HasWatched (rows_of (found_of found.now)) false [] → ⊥ }
@@ -33,6 +34,7 @@ fn is_watched(found: &ArgMatches<'_>) -> bool
     is_set(found, "watch-all") || is_given(found, "watch")
 }
 
+/// The request for the waveform of a stimulus.
 fn waves_request(alloc: Global, found: &ArgMatches<'_>) -> Result<Request, WordFault>
     requires { HasFlag (codes "vcd") (rows_of (found_of found.now)) }
     ensures ok { IfOk result (Asks (codes "sim") (rows_of (found_of found.now))) }
@@ -68,6 +70,7 @@ pub(crate) struct Played {
     pub stimulus: String,
 }
 
+/// The files of a simulation: program, state and stimulus.
 pub(crate) fn played_of(alloc: Global, found: &ArgMatches<'_>) -> Result<Played, WordFault>
     ensures ok { IfOk result (Plays (rows_of (found_of found.now))) }
     ensures err { IfErr result (UsageWhere ((w : Played) → Plays (rows_of (found_of found.now)) w → ⊥)) }
@@ -81,6 +84,7 @@ pub(crate) fn played_of(alloc: Global, found: &ArgMatches<'_>) -> Result<Played,
     })
 }
 
+/// The request for the trace of a stimulus with its outputs alone.
 fn trace_request(alloc: Global, found: &ArgMatches<'_>) -> Result<Request, WordFault>
     requires vcd { HasFlag (codes "vcd") (rows_of (found_of found.now)) → ⊥ }
     requires watched { HasWatched (rows_of (found_of found.now)) false [] }
@@ -93,6 +97,7 @@ fn trace_request(alloc: Global, found: &ArgMatches<'_>) -> Result<Request, WordF
     }
 }
 
+/// The request for the trace of a stimulus with watched columns.
 fn watch_request(alloc: Global, found: &ArgMatches<'_>) -> Result<Request, WordFault>
     requires vcd { HasFlag (codes "vcd") (rows_of (found_of found.now)) → ⊥ }
     requires watched { HasWatched (rows_of (found_of found.now)) false [] → ⊥ }
@@ -111,6 +116,7 @@ struct WatchedNames {
     names: Vec<String>,
 }
 
+/// What is watched: by names, or all by a flag, but not both.
 fn watched_of(alloc: Global, found: &ArgMatches<'_>) -> Result<WatchedNames, WordFault>
     ensures ok { IfOk result (λ w. HasWatched (rows_of (found_of found.now)) w.all (map string_bytes w.names.items)) }
     ensures err { IfErr result (UsageWhere ((all : Bool) (names : List Text) → HasWatched (rows_of (found_of found.now)) all names → ⊥)) }
@@ -123,7 +129,7 @@ fn watched_of(alloc: Global, found: &ArgMatches<'_>) -> Result<WatchedNames, Wor
     Ok(WatchedNames { all, names })
 }
 
-/// What a trace is made of.
+/// What every trace is made of: its files, the time between scans, and where the last state is saved.
 fn traced_of(alloc: Global, found: &ArgMatches<'_>) -> Result<SimRequest, WordFault>
     ensures ok { IfOk result (NamesTrace (rows_of (found_of found.now))) }
     ensures err { IfErr result (UsageWhere ((r : SimRequest) → NamesTrace (rows_of (found_of found.now)) r → ⊥)) }

@@ -45,6 +45,7 @@ pub fn read_words(alloc: Global, words: Vec<String>) -> Result<Task, WordFault>
     }
 }
 
+/// What is said of words that `clap` refuses: its help, its text on the mistake, or that memory ran out.
 fn fault_of(alloc: Global, error: &clap::Error) -> WordFault
     ensures { SaysOf (kind_of error.now) result }
 {
@@ -61,6 +62,7 @@ fn fault_of(alloc: Global, error: &clap::Error) -> WordFault
     }
 }
 
+/// The task of a command line that `clap` has taken: that of its subcommand, which has to be given.
 fn task_in(alloc: Global, matches: &ArgMatches<'_>) -> Result<Task, WordFault>
     ensures ok { IfOk result (λ t. IfSome (subcommand_rows_of matches.now) (λ p. HasTask p.0 p.1 t) × IsSome (subcommand_rows_of matches.now)) }
     ensures err { IfErr result (UsageWhere (IfSome (subcommand_rows_of matches.now) (λ p. HasNoTask p.0 p.1))) }
@@ -71,6 +73,7 @@ fn task_in(alloc: Global, matches: &ArgMatches<'_>) -> Result<Task, WordFault>
     }
 }
 
+/// The task of a subcommand: pages on faults, or a request.
 fn task_of(alloc: Global, name: &str, found: &ArgMatches<'_>) -> Result<Task, WordFault>
     ensures ok { IfOk result (HasTask name.now (rows_of (found_of found.now))) }
     ensures err { IfErr result (UsageWhere (HasNoTask name.now (rows_of (found_of found.now)))) }
@@ -84,7 +87,7 @@ fn task_of(alloc: Global, name: &str, found: &ArgMatches<'_>) -> Result<Task, Wo
     }
 }
 
-/// A request is performed as it is, or for each coil.
+/// The task of a request: to perform it as it is, or with `--all-coils` for each coil.
 fn task_for(alloc: Global, found: &ArgMatches<'_>, line: CommandLine) -> Result<Task, WordFault>
     ensures ok { IfOk result (λ t. (name : Text) → Says name (rows_of (found_of found.now)) line → HasTask name (rows_of (found_of found.now)) t) }
     ensures err { IfErr result (λ e. e ≡ WordFault.Memory) }
@@ -95,6 +98,7 @@ fn task_for(alloc: Global, found: &ArgMatches<'_>, line: CommandLine) -> Result<
     }
 }
 
+/// The task of `explain`: the pages of the codes, all of which have to exist.
 fn explain_task(alloc: Global, found: &ArgMatches<'_>) -> Result<Task, WordFault>
     ensures ok { IfOk result (HasTask (codes "explain") (rows_of (found_of found.now))) }
     ensures err { IfErr result (UsageWhere (HasNoTask (codes "explain") (rows_of (found_of found.now)))) }
@@ -106,19 +110,21 @@ fn explain_task(alloc: Global, found: &ArgMatches<'_>) -> Result<Task, WordFault
     Ok(Task::Explain(names))
 }
 
+/// Whether a word is the code of a fault, which has a page.
 fn is_code(name: &String) -> bool
     ensures { result ≡ is_fault_code (string_bytes name.now) }
 {
     page_of(name.as_str()).is_some()
 }
 
-/// Whether all are codes of faults.
+/// Whether each word is the code of a fault, which has a page.
 fn are_codes(names: &[String]) -> bool
     ensures { result ≡ list_all (λ name. is_fault_code (string_bytes name)) names.now }
 {
     names.iter().all(|name| is_code(name))
 }
 
+/// The request of a subcommand, with the flags that every request takes.
 fn line_of(alloc: Global, name: &str, found: &ArgMatches<'_>) -> Result<CommandLine, WordFault>
     ensures ok { IfOk result (Says name.now (rows_of (found_of found.now))) }
     ensures err { IfErr result (UsageWhere (AsksNone name.now (rows_of (found_of found.now)))) }
@@ -133,6 +139,7 @@ fn line_of(alloc: Global, name: &str, found: &ArgMatches<'_>) -> Result<CommandL
     }
 }
 
+/// The request of a subcommand, by its name, with its flags and arguments.
 fn request_of(alloc: Global, name: &str, found: &ArgMatches<'_>) -> Result<Request, WordFault>
     ensures ok { IfOk result (Asks name.now (rows_of (found_of found.now))) }
     ensures err { IfErr result (UsageWhere (AsksNone name.now (rows_of (found_of found.now)))) }
@@ -149,6 +156,7 @@ fn request_of(alloc: Global, name: &str, found: &ArgMatches<'_>) -> Result<Reque
     }
 }
 
+/// The request of `check`.
 fn check_request(alloc: Global, found: &ArgMatches<'_>) -> Result<Request, WordFault>
     ensures ok { IfOk result (Asks (codes "check") (rows_of (found_of found.now))) }
     ensures err { IfErr result (UsageWhere (AsksNone (codes "check") (rows_of (found_of found.now)))) }
@@ -158,6 +166,7 @@ fn check_request(alloc: Global, found: &ArgMatches<'_>) -> Result<Request, WordF
     Ok(Request::Check { file, warns })
 }
 
+/// The request of `uses`.
 fn uses_request(alloc: Global, found: &ArgMatches<'_>) -> Result<Request, WordFault>
     ensures ok { IfOk result (Asks (codes "uses") (rows_of (found_of found.now))) }
     ensures err { IfErr result (UsageWhere (AsksNone (codes "uses") (rows_of (found_of found.now)))) }
@@ -166,6 +175,7 @@ fn uses_request(alloc: Global, found: &ArgMatches<'_>) -> Result<Request, WordFa
     Ok(Request::Uses { file })
 }
 
+/// The request of `import`, with how elements without a counterpart are read.
 fn import_request(alloc: Global, found: &ArgMatches<'_>) -> Result<Request, WordFault>
     ensures ok { IfOk result (Asks (codes "import") (rows_of (found_of found.now))) }
     ensures err { IfErr result (UsageWhere (AsksNone (codes "import") (rows_of (found_of found.now)))) }
@@ -182,7 +192,7 @@ fn import_request(alloc: Global, found: &ArgMatches<'_>) -> Result<Request, Word
     })
 }
 
-/// Whether a timer without a control input has it ON.
+/// How the control of an old timer is read to which nothing is drawn: as ON, or as it is in ClassicLadder.
 fn control_of(found: &ArgMatches<'_>) -> Result<bool, WordFault>
     ensures ok { IfOk result (λ on. HasControl on (rows_of (found_of found.now))) }
     ensures err { IfErr result (UsageWhere ((on : Bool) → HasControl on (rows_of (found_of found.now)) → ⊥)) }
@@ -194,7 +204,7 @@ fn control_of(found: &ArgMatches<'_>) -> Result<bool, WordFault>
     }
 }
 
-/// What the flags ask to be shut out for ever.
+/// What a list of `never` says of variables: never ON, never OFF, or never both ON.
 fn excluded_of(found: &ArgMatches<'_>) -> Result<Excluded, WordFault>
     ensures ok { IfOk result (λ e. HasExcluded e (rows_of (found_of found.now))) }
     ensures err { IfErr result (UsageWhere ((e : Excluded) → HasExcluded e (rows_of (found_of found.now)) → ⊥)) }
@@ -207,6 +217,7 @@ fn excluded_of(found: &ArgMatches<'_>) -> Result<Excluded, WordFault>
     }
 }
 
+/// The request of `never`.
 fn never_request(alloc: Global, found: &ArgMatches<'_>) -> Result<Request, WordFault>
     ensures ok { IfOk result (Asks (codes "never") (rows_of (found_of found.now))) }
     ensures err { IfErr result (UsageWhere (AsksNone (codes "never") (rows_of (found_of found.now)))) }

@@ -1,4 +1,4 @@
-//! The import of a project.
+//! The import of a project: its program text, or the report of why there is none.
 
 ghost use Rattle.std.specs.Prelude.{◌≡◌, ◌≤◌, IfErr, IfOk};
 ghost use Rattle.clp_project.specs.Project.{IsProject};
@@ -13,7 +13,7 @@ use clp_project::{Project, ReadingOptions, joined, links_in, read_project};
 use io_text::{Sink, WriteFault, put};
 use std::alloc::Global;
 
-/// The status where something was said of a fault, as far as the writer took it.
+/// The status 1 of a request that ends with a fault, once the writer took what it could of the report.
 fn told(written: Result<(), WriteFault>) -> u8
     ensures { result ≡ 1 }
 {

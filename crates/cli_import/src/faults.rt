@@ -10,14 +10,14 @@ use clp_import::{ImportFault, Refusal};
 use clp_project::{ClpFault, Table};
 use io_text::{Piece, Sink, TextBuffer, WriteFault, add_pieces, put_pieces};
 
-/// A line that explains, or nothing where that isn't asked for.
+/// A line that explains a fault, if that is asked for, and otherwise nothing.
 fn explained(why: bool, line: &'static [u8]) -> &'static [u8]
     ensures { result.now ≡ explained why line.now }
 {
     if why { line } else { b"" }
 }
 
-/// Adds what is said of an element that can't be carried over.
+/// Adds the lines on one element that can't be carried over.
 fn add_refusal<W: Sink>(
     buffer: &mut TextBuffer,
     why: bool,
@@ -41,7 +41,7 @@ fn add_refusal<W: Sink>(
     add_pieces(buffer, pieces.as_slice(), writer)
 }
 
-/// Adds what is said of elements that can't be carried over, of one after the other.
+/// Adds the lines on all elements that can't be carried over.
 fn add_refusals<W: Sink>(
     buffer: &mut TextBuffer,
     why: bool,
@@ -56,7 +56,7 @@ fn add_refusals<W: Sink>(
     Ok(())
 }
 
-/// Writes what is said of elements that can't be carried over.
+/// Writes the lines on all elements that can't be carried over.
 pub(crate) fn write_refusals<W: Sink>(
     why: bool,
     refusals: &[Refusal],
@@ -69,6 +69,7 @@ pub(crate) fn write_refusals<W: Sink>(
     buffer.flush(writer)
 }
 
+/// What a table of the project is called in a fault line.
 fn table_word(table: Table) -> &'static [u8]
     ensures { result.now ≡ table_word table }
 {
@@ -80,6 +81,7 @@ fn table_word(table: Table) -> &'static [u8]
     }
 }
 
+/// The sentence on a project that can't be read, by the number of its fault.
 fn project_explanation(fault: ClpFault) -> &'static [u8]
     ensures { result.now ≡ project_explanation fault }
 {
@@ -119,7 +121,7 @@ fn put_numbered<'a, W: Sink>(
     put_pieces(writer, pieces.as_slice())
 }
 
-/// Writes what is said of a text that is no project.
+/// Writes the lines on a text that is no project.
 pub(crate) fn write_project_fault<W: Sink>(
     why: bool,
     fault: ClpFault,
@@ -168,35 +170,43 @@ struct Said {
     explanation: &'static [u8],
 }
 
+impl Said {
+    /// The line, and its explanation.
+    fn new(line: &'static [u8], explanation: &'static [u8]) -> Said
+        ensures line { result.line.now ≡ line.now }
+        ensures explanation { result.explanation.now ≡ explanation.now }
+    {
+        Said { line, explanation }
+    }
+}
+
+/// The line and the sentence on a project that has no program text.
 fn import_said(fault: ImportFault) -> Said
     ensures line { result.line.now ≡ import_line fault }
     ensures explanation { result.explanation.now ≡ import_explanation fault }
 {
     match fault {
-        ImportFault::TooManyRungs => Said {
-            line: b"fault P7 rungs\n",
-            explanation: b"P7: a program has at most 100 rungs\n",
-        },
-        ImportFault::TooManyVars => Said {
-            line: b"fault P7 variables\n",
-            explanation: b"P7: a program has at most 256 variables\n",
-        },
-        ImportFault::TooManyBlocks => Said {
-            line: b"fault P7 blocks\n",
-            explanation: b"P7: a program has at most 64 instances of blocks\n",
-        },
-        ImportFault::Memory => Said {
-            line: b"fault X7\n",
-            explanation: b"X7: out of memory\n",
-        },
-        ImportFault::Refused | ImportFault::NotFaithful => Said {
-            line: b"fault P8\n",
-            explanation: b"P8: the text that was made of the project doesn't have what the project has\n",
-        },
+        ImportFault::TooManyRungs => Said::new(
+            b"fault P7 rungs\n",
+            b"P7: a program has at most 100 rungs\n",
+        ),
+        ImportFault::TooManyVars => Said::new(
+            b"fault P7 variables\n",
+            b"P7: a program has at most 256 variables\n",
+        ),
+        ImportFault::TooManyBlocks => Said::new(
+            b"fault P7 blocks\n",
+            b"P7: a program has at most 64 instances of blocks\n",
+        ),
+        ImportFault::Memory => Said::new(b"fault X7\n", b"X7: out of memory\n"),
+        ImportFault::Refused | ImportFault::NotFaithful => Said::new(
+            b"fault P8\n",
+            b"P8: the text that was made of the project doesn't have what the project has\n",
+        ),
     }
 }
 
-/// Writes what is said of a project that has no program text though none of its elements is refused.
+/// Writes the lines on a project that has no program text though all its elements can be carried over.
 pub(crate) fn write_import_fault<W: Sink>(
     why: bool,
     fault: ImportFault,

@@ -34,7 +34,7 @@ pub(crate) fn reason_word(reason: Reason) -> &'static [u8]
     }
 }
 
-/// The line that explains it.
+/// The line that explains why an element can't be carried over.
 pub(crate) fn reason_line(reason: Reason) -> &'static [u8]
     ensures { result.now ≡ reason_line reason }
 {

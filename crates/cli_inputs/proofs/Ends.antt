@@ -9,13 +9,8 @@ use Rattle.cli_inputs.specs.declared.fault.ToolFault.TheVariants as fault
 use Rattle.cli_inputs.specs.Reports.{HasCauseFault}
 
 pub cause_fault : (first : Option CauseFault) (f : CauseFault) → first ≡ reason f → HasCauseFault first (fault.Cause f)
-cause_fault first cause.MomentBack h = inr h
-cause_fault first cause.NotACoil h = inr h
-cause_fault first cause.TooManyFree h = inr h
-cause_fault first cause.NotAnInput h = inr h
-cause_fault first cause.RepeatedInput h = inr h
-cause_fault first cause.AfterOutOfRange h = inr h
 cause_fault first cause.Memory h = inl refl
+cause_fault first _ h = inr h
 
 -- A text that is written after another one.
 pub puts_next : {T E : Type 0} (a b c : WriteLog) (xs ys : List ℕ) (r : Result T E) → PutsAll a b xs → Puts b c r ys → Puts a c r (xs ++ ys)

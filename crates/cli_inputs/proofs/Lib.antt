@@ -1,3 +1,3 @@
 pub mod Ends
-mod UnknownWords
+pub mod UnknownWords
 mod Quoting

@@ -11,7 +11,7 @@ use io_text::{Piece, ReadFault, Sink, WriteFault, put_pieces};
 use text_state::StateFault;
 use text_trace::SimFault;
 
-/// The sentence of a fault; of one of a program text `write_reason` says more.
+/// The sentence that explains a fault; on a program text `write_reason` says more.
 fn sentence(fault: ToolFault) -> &'static [u8]
     ensures { result.now ≡ sentence fault }
 {
@@ -51,6 +51,7 @@ fn sentence(fault: ToolFault) -> &'static [u8]
     }
 }
 
+/// Writes what follows the line of a fault: the place and the rule for a program text, and a sentence for any other fault.
 fn explain<W: Sink>(
     text: &[u8],
     fault: &ToolFault,

@@ -6,7 +6,7 @@ ghost use Rattle.cli_inputs.specs.FaultLine.{cause_number, fault_line, kind_word
 ghost use Rattle.cli_inputs.specs.Explained.{cause_sentence};
 ghost use Rattle.cli_inputs.specs.declared.fault.ToolFault.TheVariants.{Read, Sim};
 
-use crate::rule::{RuleText, grid_rule, var_rule};
+use crate::rule::{RuleText, grid_rule, rule_text, var_rule};
 use causes_query::CauseFault;
 use diagram_declarations::{TitleFault, VarFault, VarRule};
 use diagram_reader::GridFault;
@@ -101,6 +101,7 @@ pub fn write_fault<W: Sink>(fault: &ToolFault, writer: &mut W) -> Result<(), Wri
     }
 }
 
+/// Writes the line of a fault of the declarations: its rule and its line.
 fn write_var_fault<W: Sink>(fault: VarFault, writer: &mut W) -> Result<(), WriteFault>
     ensures { Puts (W.log writer.old) (W.log writer.new) result (var_line fault.rule fault.line) }
 {
@@ -117,6 +118,7 @@ fn write_var_fault<W: Sink>(fault: VarFault, writer: &mut W) -> Result<(), Write
     put_pieces(writer, pieces.as_slice())
 }
 
+/// Writes the line of a text that can't be read: unreadable, too long, or out of memory.
 fn write_read_fault<W: Sink>(
     kind: TextKind,
     fault: ReadFault,
@@ -137,6 +139,7 @@ fn write_read_fault<W: Sink>(
     put_pieces(writer, pieces.as_slice())
 }
 
+/// Writes the line of a fault of a simulation, with the row of the stimulus.
 fn write_sim_fault<W: Sink>(fault: SimFault, writer: &mut W) -> Result<(), WriteFault>
     ensures { Puts (W.log writer.old) (W.log writer.new) result (fault_line (Sim fault)) }
 {
@@ -150,7 +153,7 @@ fn write_sim_fault<W: Sink>(fault: SimFault, writer: &mut W) -> Result<(), Write
     }
 }
 
-/// Writes a line that ends with a number.
+/// Writes a fault line that ends with a number.
 fn write_numbered<W: Sink>(text: &[u8], number: u64, writer: &mut W) -> Result<(), WriteFault>
     ensures { Puts (W.log writer.old) (W.log writer.new) result (numbered text.now number) }
 {
@@ -158,6 +161,7 @@ fn write_numbered<W: Sink>(text: &[u8], number: u64, writer: &mut W) -> Result<(
     put_pieces(writer, pieces.as_slice())
 }
 
+/// What a text is called in a fault line.
 fn kind_word(kind: TextKind) -> &'static [u8]
     ensures { result.now ≡ kind_word kind }
 {
@@ -175,33 +179,15 @@ pub(crate) fn cause_rule(fault: CauseFault) -> RuleText
     ensures sentence { result.sentence.now ≡ cause_sentence fault }
 {
     match fault {
-        CauseFault::MomentBack => RuleText {
-            number: 1,
-            sentence: b"C1: the moment is before the one that the state stores",
-        },
-        CauseFault::NotACoil => RuleText {
-            number: 2,
-            sentence: b"C2: no coil writes this variable",
-        },
-        CauseFault::TooManyFree => RuleText {
-            number: 3,
-            sentence: b"C3: too many inputs are listed",
-        },
-        CauseFault::NotAnInput => RuleText {
-            number: 4,
-            sentence: b"C4: a listed variable isn't an input",
-        },
-        CauseFault::RepeatedInput => RuleText {
-            number: 5,
-            sentence: b"C5: an input is listed twice",
-        },
-        CauseFault::AfterOutOfRange => RuleText {
-            number: 6,
-            sentence: b"C6: the listed inputs have no such number",
-        },
-        CauseFault::Memory => RuleText {
-            number: 7,
-            sentence: b"C7: out of memory",
-        },
+        CauseFault::MomentBack => rule_text(
+            1,
+            b"C1: the moment is before the one that the state stores",
+        ),
+        CauseFault::NotACoil => rule_text(2, b"C2: no coil writes this variable"),
+        CauseFault::TooManyFree => rule_text(3, b"C3: too many inputs are listed"),
+        CauseFault::NotAnInput => rule_text(4, b"C4: a listed variable isn't an input"),
+        CauseFault::RepeatedInput => rule_text(5, b"C5: an input is listed twice"),
+        CauseFault::AfterOutOfRange => rule_text(6, b"C6: the listed inputs have no such number"),
+        CauseFault::Memory => rule_text(7, b"C7: out of memory"),
     }
 }

@@ -23,12 +23,12 @@ const WIDEST: usize = RAIL + 1;
 
 const SPACES: &[u8; WIDEST] = &[b' '; WIDEST];
 
-/// What stands before a line that has no number.
+/// What is written before a line that has no number.
 const MARGIN: &[u8] = b"        | ";
 
 const CARETS: &[u8; CELL] = &[b'^'; CELL];
 
-/// What stands under a line of a drawing.
+/// What is written under a line of a drawing.
 #[derive(Clone, Copy)]
 pub(crate) struct Marks {
     /// How many spaces come first.
@@ -37,6 +37,7 @@ pub(crate) struct Marks {
     pub(crate) count: usize,
 }
 
+/// A byte as it is quoted: `?` for a control character, so that no terminal acts on it.
 fn quoted_byte(byte: u8) -> u8
     ensures { result ≡ quoted_byte byte }
 {
@@ -47,7 +48,7 @@ fn quoted_byte(byte: u8) -> u8
     }
 }
 
-/// Adds the bytes of a line, as they are quoted.
+/// Adds the bytes of a line with control characters replaced, so that no terminal acts on them.
 fn add_bytes<W: Sink>(
     buffer: &mut TextBuffer,
     bytes: &[u8],
@@ -61,6 +62,7 @@ fn add_bytes<W: Sink>(
     Ok(())
 }
 
+/// This many spaces, by which marks get below their column.
 fn spaces(count: usize) -> &'static [u8]
     requires { count ≤ WIDEST }
     ensures { result.now ≡ replicate count space }
@@ -68,6 +70,7 @@ fn spaces(count: usize) -> &'static [u8]
     &SPACES[..count]
 }
 
+/// This many carets, which mark what is wrong.
 fn carets(count: usize) -> &'static [u8]
     requires { count ≤ CELL }
     ensures { result.now ≡ replicate count caret }
@@ -75,7 +78,7 @@ fn carets(count: usize) -> &'static [u8]
     &CARETS[..count]
 }
 
-/// Adds a line with marks, where there are any.
+/// Adds the line with marks under a quoted line, if there are any.
 fn add_marks<W: Sink>(
     buffer: &mut TextBuffer,
     marks: Option<Marks>,
@@ -98,7 +101,7 @@ fn add_marks<W: Sink>(
     }
 }
 
-/// How many spaces make the number of a line as wide as the others.
+/// How many spaces fill up the number of a line, so that all numbers are as wide.
 fn missing(number: usize) -> usize
     ensures value { result ≡ DIGITS - length (decimal number) }
     ensures few { result ≤ DIGITS }
@@ -107,7 +110,7 @@ fn missing(number: usize) -> usize
     DIGITS.saturating_sub(digits.format(number).len())
 }
 
-/// Adds the number of a line.
+/// Adds the number of a quoted line, and whether the fault is in this one.
 fn add_number<W: Sink>(
     buffer: &mut TextBuffer,
     is_it: bool,
@@ -125,13 +128,14 @@ fn add_number<W: Sink>(
     add_pieces(buffer, pieces.as_slice(), writer)
 }
 
+/// The part of a line that is quoted, at most `WIDTH` bytes.
 fn start(line: &[u8]) -> &[u8]
     ensures { result.now ≡ take WIDTH line.now }
 {
     &line[..WIDTH.min(line.len())]
 }
 
-/// Adds the bytes of a line, and ends it.
+/// Adds as much of a line as is quoted, and its end.
 fn add_end<W: Sink>(buffer: &mut TextBuffer, line: &[u8], writer: &mut W) -> Result<(), WriteFault>
     ensures { Sends (W.log writer.old) (W.log writer.new) buffer.old buffer.new result (map quoted_byte (take WIDTH line.now) ++ codes "\n") }
 {
@@ -139,7 +143,7 @@ fn add_end<W: Sink>(buffer: &mut TextBuffer, line: &[u8], writer: &mut W) -> Res
     buffer.add(b"\n", writer)
 }
 
-/// Adds a line with its number.
+/// Adds a quoted line with its number.
 fn add_line<W: Sink>(
     buffer: &mut TextBuffer,
     is_it: bool,
@@ -153,14 +157,14 @@ fn add_line<W: Sink>(
     add_end(buffer, line, writer)
 }
 
-/// The line of a text with this number, from 0, where there is one.
+/// The line of a text with this number, counted from 0, if there is one.
 fn line_of(text: &[u8], number: usize) -> Option<&[u8]>
     ensures { option_map (λ l. l.now) result ≡ slice_get (slice_split (λ b. b == line_feed) text.now) number }
 {
     text.split(|b| *b == b'\n').nth(number)
 }
 
-/// Adds the line of a text with this number, from 1, where there is one.
+/// Adds the quoted line with this number, counted from 1, if the text has it.
 fn add_quote<W: Sink>(
     buffer: &mut TextBuffer,
     text: &[u8],
@@ -179,7 +183,7 @@ fn add_quote<W: Sink>(
     }
 }
 
-/// Adds what stands under the line where a fault shows, and the next line.
+/// Adds the marks under the line where a fault shows, and the line after it.
 fn add_below<W: Sink>(
     buffer: &mut TextBuffer,
     text: &[u8],
@@ -198,7 +202,7 @@ fn add_below<W: Sink>(
     add_quote(buffer, text, false, line + 1, writer)
 }
 
-/// Adds the line where a fault shows, what stands under it, and the next line.
+/// Adds the line where a fault shows, the marks under it, and the line after it.
 fn add_from<W: Sink>(
     buffer: &mut TextBuffer,
     text: &[u8],
@@ -213,7 +217,7 @@ fn add_from<W: Sink>(
     add_below(buffer, text, line, marks, writer)
 }
 
-/// Adds the line where a fault shows, with what stands under it, between the line before it and the one after it.
+/// Adds the line where a fault shows, with the marks under it, and the lines before and after it.
 pub(crate) fn add_near<W: Sink>(
     buffer: &mut TextBuffer,
     text: &[u8],

@@ -16,7 +16,7 @@ use io_text::{Sink, TextBuffer, WriteFault};
 const RULER: &[u8] =
     b"        | |     1     |     2     |     3     |     4     |     5     |     6     |     7     |     8     |     9     |    10     |\n";
 
-/// Adds a sentence as a line.
+/// Adds a sentence as a line of its own.
 fn add_sentence<W: Sink>(
     buffer: &mut TextBuffer,
     sentence: &[u8],
@@ -28,7 +28,7 @@ fn add_sentence<W: Sink>(
     buffer.add(b"\n", writer)
 }
 
-/// The marks under what breaks a rule in a column, where that is known.
+/// The marks under what breaks a rule of the drawing, if its column is known.
 fn marks(rule: GridRule, column: Option<usize>) -> Option<Marks>
     requires { IfSome column (λ c. c ≤ COLUMNS) }
     ensures value { result ≡ option_map (marks_in rule) column }
@@ -76,6 +76,7 @@ fn add_place<W: Sink>(
     add_near(buffer, text, line, marks, writer)
 }
 
+/// Adds why a text is no program: the sentence of the rule, and the lines near the place.
 fn add_reason<W: Sink>(
     buffer: &mut TextBuffer,
     text: &[u8],

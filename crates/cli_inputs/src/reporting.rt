@@ -1,4 +1,4 @@
-//! The report of a fault.
+//! The report of a fault: its line and, where that is asked for, what explains it.
 
 ghost use Rattle.std.specs.Prelude.{◌≡◌};
 ghost use Rattle.cli_inputs.specs.Explained.{IsMarked};
@@ -12,7 +12,7 @@ use diagram_reader::GridFault;
 use io_text::Sink;
 use std::alloc::Global;
 
-/// The column in which the program text breaks the rule of the fault.
+/// The column in which a program text breaks the rule of the fault.
 fn column_of(alloc: Global, text: &[u8], fault: &ToolFault) -> Option<usize>
     ensures { IsMarked text.now fault.now result }
 {
@@ -24,7 +24,7 @@ fn column_of(alloc: Global, text: &[u8], fault: &ToolFault) -> Option<usize>
     }
 }
 
-/// The column to be marked, where the fault is explained.
+/// The column that is marked, if faults are explained.
 fn marked(texts: &Texts, fault: &ToolFault) -> Option<usize>
     ensures { IsMarked (given_by texts.now).program fault.now result }
 {
@@ -35,7 +35,7 @@ fn marked(texts: &Texts, fault: &ToolFault) -> Option<usize>
     }
 }
 
-/// Writes what is said of a fault, as far as the writer takes it. Returns the status 1.
+/// Writes the line of a fault and, if that is asked for, what explains it, as far as the writer takes it. Returns the status 1.
 pub fn report<E: Sink>(texts: &Texts, fault: &ToolFault, err: &mut E) -> u8
     ensures status { result ≡ 1 }
     ensures line { IsReported (given_by texts.now) (E.log err.old) (E.log err.new) fault.now }
@@ -47,7 +47,7 @@ pub fn report<E: Sink>(texts: &Texts, fault: &ToolFault, err: &mut E) -> u8
     }
 }
 
-/// The same of a fault for which the texts weren't read.
+/// The same for a fault that comes before the texts were read.
 pub fn report_unread<E: Sink>(why: bool, fault: &ToolFault, err: &mut E) -> u8
     ensures status { result ≡ 1 }
     ensures line { IsReported (unread why) (E.log err.old) (E.log err.new) fault.now }

@@ -13,7 +13,8 @@ pub struct RuleText {
     pub sentence: &'static [u8],
 }
 
-fn rule_text(number: u64, sentence: &'static [u8]) -> RuleText
+/// A rule by its number and its sentence.
+pub(crate) fn rule_text(number: u64, sentence: &'static [u8]) -> RuleText
     ensures number { result.number ≡ number }
     ensures sentence { result.sentence.now ≡ sentence.now }
 {

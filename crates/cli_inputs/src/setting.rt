@@ -1,4 +1,4 @@
-//! The program and the state that the texts of a request describe.
+//! The program and the state that the texts of a request describe, and the moment of the scan that is asked about.
 
 ghost use Rattle.std.specs.Prelude.{◌≡◌, IfErr, IfOk, option_map, unwrap_or, vec_items};
 ghost use Rattle.scan_cycle.specs.Standing.{Fits};
@@ -42,7 +42,7 @@ pub fn read_given_program(alloc: Global, texts: &Texts) -> Result<Program, ToolF
     }
 }
 
-/// The state of a text, or the fresh one where there is no text.
+/// The state that a text describes, or the fresh one without a text.
 fn starting_state(
     alloc: Global,
     program: &Program,
@@ -84,7 +84,7 @@ pub fn read_setting(alloc: Global, texts: &Texts) -> Result<Setting, ToolFault>
     }
 }
 
-/// The moment of the scan: the stored one where none is asked for.
+/// The moment of the scan that is asked about: the one that is given, or else the one of the state.
 pub fn moment(asked: Option<u64>, stored: u64) -> u64
     ensures { result ≡ unwrap_or asked stored }
 {

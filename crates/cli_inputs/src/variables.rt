@@ -24,7 +24,7 @@ pub struct ShownVariables {
 }
 
 /// The variable that an argument names. Letter case makes no difference.
-fn variable(decls: &Decls, word: &str) -> Option<usize>
+fn variable_of(decls: &Decls, word: &str) -> Option<usize>
     ensures { result ≡ variable_of decls.now word.now }
 {
     match Name::new(word.as_bytes()) {
@@ -52,7 +52,7 @@ pub fn asked_variables(
     ensures inputs { IfOk result (λ a. AreListed decls.now all (map string_bytes inputs.now) a.inputs.items) }
     ensures fault { IfErr result (HasWordFault decls.now (coil.now ∷ map string_bytes inputs.now)) }
 {
-    let Some(coil) = variable(decls, coil) else {
+    let Some(coil) = variable_of(decls, coil) else {
         return Err(ToolFault::Word { number: 1 });
     };
     match listed_variables(alloc, decls, all, inputs, 2) {
@@ -114,7 +114,7 @@ fn listed_variables(
     named_variables(alloc, decls, words, first)
 }
 
-/// The variables that the words name, of which the first has this number; the words before it name variables.
+/// The variables that the words name. The first of these words has the number `first` on the command line.
 pub(crate) fn named_variables(
     alloc: Global,
     decls: &Decls,
@@ -128,7 +128,7 @@ pub(crate) fn named_variables(
 {
     let mut variables = Vec::new(alloc);
     for word in words {
-        let Some(number) = variable(decls, word.as_str()) else {
+        let Some(number) = variable_of(decls, word.as_str()) else {
             return Err(ToolFault::Word {
                 number: variables.len() + first,
             });

@@ -184,7 +184,7 @@ const OTHER_SUBCOMMANDS: &[Subcommand] = &[
     },
 ];
 
-/// The argument of a word.
+/// The argument of `clap` for one word of a subcommand.
 fn arg_of<'a>(alloc: Global, word: &'a Word) -> Arg<'a>
     ensures rule { rule_of result ≡ word_rule word.now }
     ensures global { result.global ≡ false }
@@ -227,7 +227,7 @@ fn arg_of<'a>(alloc: Global, word: &'a Word) -> Arg<'a>
     }
 }
 
-/// A subcommand with its words in their order.
+/// The subcommand of `clap` with its words in their order.
 fn subcommand_of<'a>(alloc: Global, sub: &'a Subcommand) -> Result<Command<'a>, AllocError>
     ensures { IfOk result (IsApp (taking sub.now.name.now (map word_rule sub.now.words.now))) }
 {
@@ -238,7 +238,7 @@ fn subcommand_of<'a>(alloc: Global, sub: &'a Subcommand) -> Result<Command<'a>, 
     Ok(command)
 }
 
-/// The program, without its subcommands.
+/// The command `ladder` of `clap`, without its subcommands.
 fn top<'a>(alloc: Global) -> Command<'a>
     ensures { app_of result ≡ bare_app }
 {
@@ -248,7 +248,7 @@ fn top<'a>(alloc: Global) -> Command<'a>
         .after_help(FAULTS)
 }
 
-/// The program with these subcommands too.
+/// A command of `clap` with these subcommands added.
 fn with_subcommands<'a>(
     alloc: Global,
     command: Command<'a>,
@@ -263,14 +263,14 @@ fn with_subcommands<'a>(
     Ok(all)
 }
 
-/// The program with its first subcommands.
+/// The command with the first of its subcommands.
 fn begun<'a>(alloc: Global) -> Result<Command<'a>, AllocError>
     ensures { IfOk result (λ c. app_of c ≡ record ladder_app { subs = check_app.top ∷ causes_app.top ∷ [] }) }
 {
     with_subcommands(alloc, top(alloc), FIRST_SUBCOMMANDS)
 }
 
-/// The whole command line.
+/// The whole command line of the program `ladder`, with all subcommands.
 ///
 /// # Errors
 ///

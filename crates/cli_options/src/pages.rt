@@ -1,4 +1,4 @@
-//! The page of a code.
+//! The page of each code of a fault.
 
 ghost use Rattle.std.specs.Prelude.{◌≡◌, is_some, position};
 ghost use Rattle.std.specs.Str.{str_eq_ignore_ascii_case};
@@ -6,13 +6,14 @@ ghost use Rattle.cli_options.specs.Pages.{fault_codes, is_fault_code};
 
 use crate::list::{CODES, PAGES, TITLES};
 
+/// Where a code is among the codes, whatever the letter case.
 fn number_in(codes: &[&str], code: &str) -> Option<usize>
     ensures { result ≡ position (λ c. str_eq_ignore_ascii_case code.now c.now) codes.now }
 {
     codes.iter().position(|c| code.eq_ignore_ascii_case(c))
 }
 
-/// The number of a code among all.
+/// The number of a code among all codes, which is that of its page.
 fn number_of(code: &str) -> Option<usize>
     ensures { result ≡ position (λ c. str_eq_ignore_ascii_case code.now c) fault_codes }
 {

@@ -25,6 +25,7 @@ pub enum About {
     Uses,
 }
 
+/// Writes the line of a program that has no faults: how many rungs, variables and instances it has.
 fn put_counts<O: Sink>(program: &Program, out: &mut O) -> Result<(), WriteFault>
     ensures { Puts (O.log out.old) (O.log out.new) result (check_line program.now) }
 {
@@ -41,6 +42,7 @@ fn put_counts<O: Sink>(program: &Program, out: &mut O) -> Result<(), WriteFault>
     put_pieces(out, pieces.as_slice())
 }
 
+/// Writes the answer of `check`: the counts, and the warnings where they are asked for.
 fn put_check<O: Sink>(warns: bool, program: &Program, out: &mut O) -> Result<(), WriteFault>
     ensures { (told : Told) → Puts (O.log out.old) (O.log out.new) result (check_text told warns program.now) }
 {
@@ -51,6 +53,7 @@ fn put_check<O: Sink>(warns: bool, program: &Program, out: &mut O) -> Result<(),
     Ok(())
 }
 
+/// Writes what is asked of a program alone.
 fn put_about<O: Sink>(about: About, program: &Program, out: &mut O) -> Result<(), WriteFault>
     ensures { (told : Told) → Puts (O.log out.old) (O.log out.new) result (about_text told about program.now) }
 {

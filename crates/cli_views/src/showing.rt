@@ -23,6 +23,7 @@ pub(crate) struct Styles {
     pub frame: Style,
 }
 
+/// How a scan and a film are drawn: as text, or as pages of HTML.
 pub(crate) fn styles_of(medium: Medium) -> Styles
     ensures drawing { result.drawing ≡ style_for medium }
     ensures frame { result.frame ≡ frame_for medium }
@@ -55,7 +56,7 @@ pub(crate) fn coil_refusal(program: &Program, coil: Option<usize>) -> Option<Cau
     }
 }
 
-/// Shows one scan in a state.
+/// Shows one scan from a state: its drawing with the power flow.
 fn show_from<O: Sink, E: Sink>(
     alloc: Global,
     request: &ShowRequest,
@@ -107,7 +108,7 @@ fn show_from<O: Sink, E: Sink>(
     }
 }
 
-/// Shows one scan in the state of the texts.
+/// Shows one scan from the state of the texts: its drawing with the power flow.
 pub fn show<O: Sink, E: Sink>(
     alloc: Global,
     request: &ShowRequest,

@@ -16,7 +16,7 @@ use std::alloc::Global;
 use text_state::write_state;
 use text_trace::simulate_every;
 
-/// Writes the state where it is to be saved.
+/// Writes the state after the last scan, where it is to be saved.
 pub(crate) fn save_state<S: Sink>(
     saves: bool,
     program: &Program,

@@ -11,7 +11,7 @@ use diagram_declarations::{Decls, Name, Parameter, Symbol, Var, VarKind};
 use std::alloc::Global;
 use text_trace::Column;
 
-/// The variable or the instance that a name is. Letter case makes no difference.
+/// The variable or the instance with this name, whatever the letter case.
 fn symbol(decls: &Decls, word: &str) -> Option<Symbol>
     ensures { result ≡ symbol_of decls.now word.now }
 {
@@ -21,7 +21,7 @@ fn symbol(decls: &Decls, word: &str) -> Option<Symbol>
     }
 }
 
-/// What the names are.
+/// The variables and instances with these names.
 fn named(alloc: Global, decls: &Decls, words: &[String]) -> Result<Vec<Symbol>, ToolFault>
     ensures ok { IfOk result (λ v. AreWatched decls.now false (map string_bytes words.now) v.items) }
     ensures fault { IfErr result (HasNameFault decls.now (map string_bytes words.now)) }
@@ -40,6 +40,7 @@ fn named(alloc: Global, decls: &Decls, words: &[String]) -> Result<Vec<Symbol>, 
     Ok(watched)
 }
 
+/// Whether a variable is a memory; all memories and instances are what `--watch-all` watches beside the outputs.
 fn is_memory(var: &Var) -> bool
     ensures { result ≡ is_memory var.now }
 {
@@ -66,7 +67,7 @@ fn memories(alloc: Global, vars: &[Var]) -> Result<Vec<Symbol>, ToolFault>
     Ok(watched)
 }
 
-/// Adds so many instances, in order of declaration.
+/// Adds all instances, in order of declaration, to what is watched.
 fn add_instances(count: usize, watched: &mut Vec<Symbol>) -> Result<(), ToolFault>
     ensures ok { OnOk result (watched.new.items ≡ watched.old.items ++ map symbol.Instance (range_with_len 0 count)) }
     ensures fault { IfErr result (λ f. f ≡ ToolFault.Memory) }
@@ -89,22 +90,7 @@ fn all(alloc: Global, decls: &Decls) -> Result<Vec<Symbol>, ToolFault>
     Ok(watched)
 }
 
-/// What is watched: all, or what has these names.
-fn watched(
-    alloc: Global,
-    decls: &Decls,
-    is_all: bool,
-    words: &[String],
-) -> Result<Vec<Symbol>, ToolFault>
-    ensures ok { IfOk result (λ v. AreWatched decls.now is_all (map string_bytes words.now) v.items) }
-    ensures fault { IfErr result (HasNameFault decls.now (map string_bytes words.now)) }
-{
-    if is_all {
-        return all(alloc, decls);
-    }
-    named(alloc, decls, words)
-}
-
+/// Adds a column that is watched.
 fn add_column(column: Column, columns: &mut Vec<Column>) -> Result<(), ToolFault>
     ensures ok { OnOk result (columns.new.items ≡ columns.old.items ++ column ∷ []) }
     ensures fault { IfErr result (λ f. f ≡ ToolFault.Memory) }
@@ -115,7 +101,7 @@ fn add_column(column: Column, columns: &mut Vec<Column>) -> Result<(), ToolFault
     }
 }
 
-/// What an instance has beside its output, by its kind.
+/// The columns that an instance has beside its output: of a timer the time elapsed, of a counter its count.
 fn further(decls: &Decls, inst: usize) -> Option<Column>
     ensures { result ≡ further_column inst (slice_get decls.now.instances inst) }
 {
@@ -129,7 +115,7 @@ fn further(decls: &Decls, inst: usize) -> Option<Column>
     }
 }
 
-/// Adds the columns of an instance.
+/// Adds the columns of an instance: its output, and what else its kind has.
 fn add_instance_columns(
     decls: &Decls,
     inst: usize,
@@ -157,7 +143,7 @@ fn add_columns(decls: &Decls, symbol: Symbol, columns: &mut Vec<Column>) -> Resu
     }
 }
 
-/// The columns of what is watched.
+/// The columns of all that is watched.
 fn columns_of(alloc: Global, decls: &Decls, watched: &[Symbol]) -> Result<Vec<Column>, ToolFault>
     ensures ok { IfOk result (λ v. v.items ≡ all_columns decls.now watched.now) }
     ensures fault { IfErr result (λ f. f ≡ ToolFault.Memory) }
@@ -179,7 +165,11 @@ pub(crate) fn watched_columns(
     ensures ok { IfOk result (λ v. AreColumns decls.now is_all (map string_bytes words.now) v.items) }
     ensures fault { IfErr result (HasNameFault decls.now (map string_bytes words.now)) }
 {
-    let watched = watched(alloc, decls, is_all, words)?;
+    let watched = if is_all {
+        all(alloc, decls)?
+    } else {
+        named(alloc, decls, words)?
+    };
     match columns_of(alloc, decls, &watched) {
         Ok(columns) => Ok(columns),
         Err(fault) => Err(fault),

@@ -5,7 +5,7 @@ use crate::names::{Named, Used, signal_of, symbol_of};
 use clp_project::{Link, Project};
 use diagram_declarations::Title;
 
-/// What the project calls it, or else the signal of its pin.
+/// What the project calls a variable or block, or else the signal of its pin.
 fn word_of<'a>(project: &Project<'a>, links: &[Link<'a>], used: Used) -> Option<&'a [u8]> {
     if let Some(symbol) = symbol_of(project, used) {
         let word = trimmed(symbol.name);
@@ -16,7 +16,7 @@ fn word_of<'a>(project: &Project<'a>, links: &[Link<'a>], used: Used) -> Option<
     signal_of(links, used)
 }
 
-/// Whether the word is a name or an alias already.
+/// Whether a word is already a name or an alias of the program.
 fn is_taken(named: &[Named], word: &[u8]) -> bool {
     for other in named {
         if other.name.bytes().eq_ignore_ascii_case(word) {
@@ -31,7 +31,7 @@ fn is_taken(named: &[Named], word: &[u8]) -> bool {
     false
 }
 
-/// What it is called, where that is another word than its name, and no other name or alias.
+/// The alias of a variable or block: what the project calls it, where no name or alias is that word.
 fn alias_of(
     project: &Project<'_>,
     links: &[Link<'_>],
@@ -46,7 +46,7 @@ fn alias_of(
     }
 }
 
-/// Gives each its alias, where it has one.
+/// Gives each variable and block its alias, where it has one.
 pub(crate) fn give_aliases(project: &Project<'_>, links: &[Link<'_>], named: &mut Vec<Named>) {
     for place in 0..named.len() {
         let alias = alias_of(project, links, named, named[place].used);

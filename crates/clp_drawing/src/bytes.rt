@@ -19,6 +19,7 @@ pub(crate) struct Word {
 }
 
 impl Word {
+    /// A word of no bytes.
     pub(crate) fn new() -> Word {
         Word {
             bytes: [0; MOST],
@@ -26,10 +27,12 @@ impl Word {
         }
     }
 
+    /// Whether no byte was added yet.
     pub(crate) fn is_empty(&self) -> bool {
         self.len == 0
     }
 
+    /// Adds a byte, unless the word is full.
     pub(crate) fn push(&mut self, byte: u8) {
         if self.len < MOST {
             self.bytes[self.len] = byte;
@@ -37,19 +40,21 @@ impl Word {
         }
     }
 
+    /// Adds bytes, as many as there is room for.
     pub(crate) fn add(&mut self, bytes: &[u8]) {
         for byte in bytes {
             self.push(*byte);
         }
     }
 
-    /// Adds bytes, and a number behind them.
+    /// Adds bytes, and after them a number in decimal.
     pub(crate) fn add_number(&mut self, bytes: &[u8], number: u32) {
         let mut digits = Buffer::new();
         self.add(bytes);
         self.add(digits.format(number).as_bytes());
     }
 
+    /// The bytes of the word.
     pub(crate) fn bytes(&self) -> &[u8] {
         &self.bytes[..self.len.min(MOST)]
     }
@@ -63,6 +68,7 @@ pub(crate) struct Text {
 }
 
 impl Text {
+    /// A text of no bytes.
     pub(crate) fn new(alloc: Global) -> Text {
         Text {
             bytes: Vec::new(alloc),
@@ -70,20 +76,21 @@ impl Text {
         }
     }
 
+    /// Adds bytes. Once memory ran out nothing more is added, and the end of the text says so.
     pub(crate) fn add(&mut self, bytes: &[u8]) {
         if self.added.is_ok() {
             self.added = self.bytes.extend_from_slice(bytes);
         }
     }
 
-    /// Adds bytes, and a number behind them.
+    /// Adds bytes, and after them a number in decimal.
     pub(crate) fn add_number(&mut self, bytes: &[u8], number: u32) {
         let mut digits = Buffer::new();
         self.add(bytes);
         self.add(digits.format(number).as_bytes());
     }
 
-    /// Adds what is said in a comment: no byte of it ends the comment.
+    /// Adds words of the project to a comment, with no byte that would end the comment.
     pub(crate) fn add_remark(&mut self, words: &[u8]) {
         let mut star = false;
         for b in trimmed(words) {
@@ -95,25 +102,26 @@ impl Text {
         }
     }
 
+    /// How many bytes the text has.
     pub(crate) fn len(&self) -> usize {
         self.bytes.len()
     }
 
-    /// Adds spaces up to the place behind `start`.
+    /// Adds spaces until the text has this many bytes from `start` on.
     pub(crate) fn fill(&mut self, start: usize, place: usize) {
         for _ in self.bytes.len().saturating_sub(start)..place {
             self.add(b" ");
         }
     }
 
-    /// Ends a line that isn't blank, without the spaces at its end.
+    /// Ends a line, which isn't blank, without the spaces at its end.
     pub(crate) fn end_line(&mut self) {
         let len = self.bytes.trim_ascii_end().len();
         self.bytes.truncate(len);
         self.add(b"\n");
     }
 
-    /// What was written, unless memory ran out.
+    /// The bytes of the text, or the fault that memory ran out.
     pub(crate) fn end(self) -> Result<Vec<u8>, AllocError> {
         match self.added {
             Ok(()) => Ok(self.bytes),

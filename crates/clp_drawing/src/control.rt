@@ -5,6 +5,7 @@ use crate::drawn::DrawnRung;
 use clp_meaning::{BlockRef, BlockSort, is_taken_on};
 use diagram_program::geometry::{COLUMNS, PLACES};
 
+/// Whether a rung has this timer with a control that is taken as ON.
 fn has_taken_on(sheet: &DrawnRung<'_>, timer: BlockRef) -> bool {
     for place in 0..PLACES {
         let (row, column) = (place / COLUMNS, place % COLUMNS);
@@ -17,7 +18,7 @@ fn has_taken_on(sheet: &DrawnRung<'_>, timer: BlockRef) -> bool {
     false
 }
 
-/// Whether the block is one, and drawn.
+/// Whether a block is a drawn old timer whose control is taken as ON.
 pub(crate) fn is_timer_taken_on(sheets: &[DrawnRung<'_>], block: BlockRef) -> bool {
     if block.sort == BlockSort::Timer {
         for sheet in sheets {
@@ -29,7 +30,7 @@ pub(crate) fn is_timer_taken_on(sheets: &[DrawnRung<'_>], block: BlockRef) -> bo
     false
 }
 
-/// Adds how many they are, where there are some.
+/// Adds a comment that says how many timers have a control that is taken as ON, if any has.
 pub(crate) fn add_taken_on(text: &mut Text, count: u32) {
     if count > 0 {
         text.add_number(

@@ -28,6 +28,7 @@ impl From<AllocError> for DraftFault {
 
     ghost from_gives = { λ _ e. e ≡ Memory };
 
+    /// Drafting needed memory that there isn't.
     fn from(_error: AllocError) -> DraftFault {
         DraftFault::Memory
     }
@@ -53,6 +54,7 @@ pub fn blocks_of(
     drawn_blocks(alloc, &sheets_of(alloc, reading, project)?)
 }
 
+/// Refuses a project with more variables or instances than a program may declare.
 fn keep_limits(used: usize, blocks: usize) -> Result<(), DraftFault> {
     if blocks > MOST_INSTANCES {
         Err(DraftFault::TooManyBlocks)
@@ -63,6 +65,7 @@ fn keep_limits(used: usize, blocks: usize) -> Result<(), DraftFault> {
     }
 }
 
+/// The text of a program: its names are chosen first, then its aliases, then it is drawn.
 fn text_of(
     alloc: Global,
     project: &Project<'_>,
@@ -75,6 +78,7 @@ fn text_of(
     drawing(alloc, project, links, sheets, &named)
 }
 
+/// The draft of a project whose rungs were looked through: its text, and the blocks that became instances.
 fn draft_of(
     alloc: Global,
     project: &Project<'_>,

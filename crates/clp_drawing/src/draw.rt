@@ -16,6 +16,12 @@ use diagram_program::geometry::{CELL, COLUMNS, ROWS};
 use diagram_program::{CoilMode, Mode};
 use std::alloc::{AllocError, Global};
 
+/// The column where the comments after the declarations begin: after the longest declaration, without an alias and with one.
+const COMMENTS: usize = 40;
+
+const COMMENTS_AFTER_ALIASES: usize = 64;
+
+/// Adds a part of a duration, as `2m`, where it isn't 0.
 fn add_part(text: &mut Text, number: u32, unit: &[u8]) {
     if number > 0 {
         text.add_number(b"", number);
@@ -37,7 +43,7 @@ fn add_duration(text: &mut Text, millis: u32) {
     }
 }
 
-/// Adds the address of a variable, which one that stands for a block hasn't.
+/// Adds the address of a variable; one that stands for a block that isn't drawn has none.
 fn add_address(text: &mut Text, used: Used) {
     if let Some(opened) = used.opened {
         text.add_number(b" AT %IX", opened.rung);
@@ -67,6 +73,7 @@ fn add_type(text: &mut Text, project: &Project<'_>, used: Used) {
     }
 }
 
+/// The words of the expression with this number, which a compare computes.
 fn expression_of<'a>(expressions: &[Expression<'a>], number: u32) -> Option<&'a [u8]> {
     for expression in expressions {
         if expression.number == Some(number) {
@@ -76,7 +83,7 @@ fn expression_of<'a>(expressions: &[Expression<'a>], number: u32) -> Option<&'a 
     None
 }
 
-/// Adds what is opened: a step with its number, or a compare as it stands in the project.
+/// Adds the comment on an input that stands for a step or a compare: the number of the step, or the words of the compare.
 fn add_opened(text: &mut Text, project: &Project<'_>, opened: Opened, number: u32) {
     if opened.is_step {
         text.add_number(b"(* step ", number);
@@ -90,7 +97,7 @@ fn add_opened(text: &mut Text, project: &Project<'_>, opened: Opened, number: u3
     text.add(b", any value *)\n");
 }
 
-/// Adds what is said, where something is.
+/// Adds words of the project to a comment, if there are any.
 fn add_words(text: &mut Text, words: &[u8]) {
     if !trimmed(words).is_empty() {
         text.add(b", ");
@@ -98,7 +105,7 @@ fn add_words(text: &mut Text, words: &[u8]) {
     }
 }
 
-/// Adds what the project says of it, and the signal that is connected with its pin.
+/// Adds the comment on a variable or block: its name and symbol in the project, and the signal that is connected with its pin.
 fn add_origin(text: &mut Text, project: &Project<'_>, links: &[Link<'_>], named: &Named) {
     text.add(b"(* ");
     text.add(variable_of(named.used).bytes());
@@ -119,17 +126,17 @@ fn add_origin(text: &mut Text, project: &Project<'_>, links: &[Link<'_>], named:
     text.add(b" *)\n");
 }
 
-/// Where the comments behind the declarations begin.
+/// The column where the comments after the declarations begin.
 fn comment_place(named: &[Named]) -> usize {
     for other in named {
         if other.alias.is_some() {
-            return 64;
+            return COMMENTS_AFTER_ALIASES;
         }
     }
-    40
+    COMMENTS
 }
 
-/// Adds the name, the alias behind it, and what it is.
+/// Adds a declaration: its name, its alias, and its type with the address or the preset.
 fn add_declared(text: &mut Text, project: &Project<'_>, named: &Named) {
     text.add(b"  ");
     text.add(named.name.bytes());
@@ -147,7 +154,7 @@ fn add_declared(text: &mut Text, project: &Project<'_>, named: &Named) {
     text.add(b" ");
 }
 
-/// Adds a line with its comment, which begins at the place.
+/// Adds the line of one declaration, with its comment from the column `place` on.
 fn add_declaration(
     text: &mut Text,
     project: &Project<'_>,
@@ -164,6 +171,7 @@ fn add_declaration(
     }
 }
 
+/// Adds the block of declarations, a line each.
 fn add_declarations(text: &mut Text, project: &Project<'_>, links: &[Link<'_>], named: &[Named]) {
     text.add(b"VAR\n");
     let place = comment_place(named);
@@ -173,6 +181,7 @@ fn add_declarations(text: &mut Text, project: &Project<'_>, links: &[Link<'_>], 
     text.add(b"END_VAR\n");
 }
 
+/// The characters of a contact's cell, by its mode.
 fn contact_cell(mode: Mode) -> &'static [u8] {
     match mode {
         Mode::Plain => b"----| |----",
@@ -182,6 +191,7 @@ fn contact_cell(mode: Mode) -> &'static [u8] {
     }
 }
 
+/// The characters of a coil's cell, by its mode.
 fn coil_cell(mode: CoilMode) -> &'static [u8] {
     match mode {
         CoilMode::Store => b"----( )----",
@@ -193,6 +203,7 @@ fn coil_cell(mode: CoilMode) -> &'static [u8] {
     }
 }
 
+/// The characters of a timer's block; the other kinds come from no project.
 fn block_cell(kind: BlockKind) -> &'static [u8] {
     match kind {
         BlockKind::Tof => b"-|IN TOF Q|",
@@ -203,6 +214,7 @@ fn block_cell(kind: BlockKind) -> &'static [u8] {
     }
 }
 
+/// The characters of the block that a timer of the project becomes.
 fn timed_cell(project: &Project<'_>, sort: BlockSort, number: u32) -> &'static [u8] {
     match timed_as(sort, entry_of(project, sort, number as usize)) {
         Some(timed) => block_cell(timed.kind),
@@ -210,7 +222,7 @@ fn timed_cell(project: &Project<'_>, sort: BlockSort, number: u32) -> &'static [
     }
 }
 
-/// The characters of a cell; the number of a jump comes behind them.
+/// The characters of a cell, by what its element means; the number of a jump is added after them.
 fn cell_of(project: &Project<'_>, meaning: Meaning, number: u32) -> &'static [u8] {
     match meaning {
         Meaning::Blank | Meaning::Operate | Meaning::Other => b"           ",
@@ -223,7 +235,7 @@ fn cell_of(project: &Project<'_>, meaning: Meaning, number: u32) -> &'static [u8
     }
 }
 
-/// Adds the name over a cell, in its middle.
+/// Adds the name over a cell, in the middle of the cell.
 fn add_name(text: &mut Text, named: &[Named], sheet: &DrawnRung<'_>, row: usize, column: usize)
     requires { (row < ROWS) × (column < COLUMNS) }
 {
@@ -239,7 +251,7 @@ fn add_name(text: &mut Text, named: &[Named], sheet: &DrawnRung<'_>, row: usize,
     }
 }
 
-/// The joint on the left of a column.
+/// The characters of the joint on the left of a column.
 fn joint(sheet: &DrawnRung<'_>, row: usize, column: usize) -> &'static [u8]
     requires { (row < ROWS) × (column < COLUMNS) }
 {
@@ -253,6 +265,7 @@ fn joint(sheet: &DrawnRung<'_>, row: usize, column: usize) -> &'static [u8]
     }
 }
 
+/// Adds the upper line of a row: the names over its cells, and the wires between the rows.
 fn add_name_line(text: &mut Text, named: &[Named], sheet: &DrawnRung<'_>, row: usize)
     requires { row < ROWS }
 {
@@ -274,6 +287,7 @@ fn add_name_line(text: &mut Text, named: &[Named], sheet: &DrawnRung<'_>, row: u
     text.end_line();
 }
 
+/// Adds the lower line of a row: its cells, and the joints between them.
 fn add_wire_line(text: &mut Text, project: &Project<'_>, sheet: &DrawnRung<'_>, row: usize)
     requires { row < ROWS }
 {
@@ -296,7 +310,7 @@ fn add_wire_line(text: &mut Text, project: &Project<'_>, sheet: &DrawnRung<'_>, 
     text.end_line();
 }
 
-/// Whether the rung jumps to the number.
+/// Whether a rung has a jump to the rung with this number.
 fn jumps_to(sheet: &DrawnRung<'_>, number: u32) -> bool {
     for row in 0..ROWS {
         let element = element_at(sheet.elements, row, COLUMNS - 1);
@@ -307,7 +321,7 @@ fn jumps_to(sheet: &DrawnRung<'_>, number: u32) -> bool {
     false
 }
 
-/// Whether a rung before this one, of the same section, jumps to it.
+/// Whether an earlier rung of the same section jumps to this one, so that it needs a label.
 fn is_target(sheets: &[DrawnRung<'_>], sheet: &DrawnRung<'_>) -> bool {
     for other in sheets {
         if other.rung < sheet.rung
@@ -334,6 +348,7 @@ fn add_title(text: &mut Text, sheet: &DrawnRung<'_>, is_target: bool) {
     }
 }
 
+/// Adds the rows of a rung, down to the last one that is used.
 fn add_rows(text: &mut Text, project: &Project<'_>, named: &[Named], sheet: &DrawnRung<'_>) {
     let rows = sheet.rows();
     for row in 0..ROWS {
@@ -344,7 +359,7 @@ fn add_rows(text: &mut Text, project: &Project<'_>, named: &[Named], sheet: &Dra
     }
 }
 
-/// How many operates a rung has; they are in the last column.
+/// How many operates a rung has: elements of the last column that compute something.
 fn operates_in(sheet: &DrawnRung<'_>) -> u32 {
     let mut count = 0u32;
     for row in 0..ROWS {
@@ -355,6 +370,7 @@ fn operates_in(sheet: &DrawnRung<'_>) -> u32 {
     count
 }
 
+/// How many elements of all rungs compute something, which no diagram can.
 fn operates_of(sheets: &[DrawnRung<'_>]) -> u32 {
     let mut count = 0u32;
     for sheet in sheets {
@@ -363,7 +379,7 @@ fn operates_of(sheets: &[DrawnRung<'_>]) -> u32 {
     count
 }
 
-/// Adds how much is opened, where something is.
+/// Adds a comment that says how much of the project is opened, if something is.
 fn add_opened_count(text: &mut Text, opened: u32, operates: u32) {
     if opened > 0 || operates > 0 {
         text.add_number(b"(* Opened: ", opened);
@@ -391,7 +407,7 @@ fn add_head(text: &mut Text, sheets: &[DrawnRung<'_>], named: &[Named]) {
     add_taken_on(text, taken_on);
 }
 
-/// The text of a program, with these names.
+/// The whole text of a program: comments, declarations and rungs, with these names.
 pub(crate) fn drawing(
     alloc: Global,
     project: &Project<'_>,

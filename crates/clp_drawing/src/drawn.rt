@@ -19,7 +19,7 @@ pub(crate) struct DrawnRung<'a> {
     drawn: [bool; PLACES],
 }
 
-/// Whether nothing is drawn in its place.
+/// Whether nothing is drawn for an element that means this.
 fn is_blank(meaning: Meaning) -> bool {
     match meaning {
         Meaning::Blank | Meaning::Operate => true,
@@ -34,7 +34,7 @@ fn is_blank(meaning: Meaning) -> bool {
     }
 }
 
-/// The elements with what is drawn of them.
+/// A rung with its elements, and which of them are drawn: those that power can reach.
 fn sheet_of<'a>(reading: ReadingOptions, rung: u32, placed: &'a Placed<'a>) -> DrawnRung<'a> {
     let elements = placed.rung.elements.as_slice();
     let power = power_of(reading, elements);
@@ -68,14 +68,14 @@ pub(crate) fn sheets_of<'a>(
 }
 
 impl DrawnRung<'_> {
-    /// What the element at a place means.
+    /// What the element at a place means, as the project is read.
     pub(crate) fn meaning(&self, row: usize, column: usize) -> Meaning
         requires { (row < ROWS) × (column < COLUMNS) }
     {
         meaning_at(self.reading, self.elements, row, column)
     }
 
-    /// Whether the element is drawn.
+    /// Whether the element at a place is drawn: power can reach it, and a cell has its meaning.
     pub(crate) fn is_drawn(&self, row: usize, column: usize) -> bool
         requires { (row < ROWS) × (column < COLUMNS) }
     {
@@ -103,6 +103,7 @@ impl DrawnRung<'_> {
         }
     }
 
+    /// Whether a block is drawn somewhere in the rung.
     pub(crate) fn has_block(&self, block: BlockRef) -> bool {
         for place in 0..PLACES {
             if self.block_at(place / COLUMNS, place % COLUMNS) == Some(block) {
@@ -112,6 +113,7 @@ impl DrawnRung<'_> {
         false
     }
 
+    /// Whether a place is drawn or passes power on from the left.
     fn is_used(&self, row: usize, column: usize) -> bool
         requires { (row < ROWS) × (column < COLUMNS) }
     {
@@ -161,7 +163,7 @@ impl DrawnRung<'_> {
             && self.is_used_above(row, column)
     }
 
-    /// How many rows are drawn, one at least.
+    /// How many rows of the rung are drawn, at least one.
     pub(crate) fn rows(&self) -> usize {
         let mut rows = 1;
         for row in 0..ROWS {

@@ -9,8 +9,11 @@ use crate::drawn::DrawnRung;
 use clp_meaning::{BlockRef, BlockSort, ClpOperand, Meaning, element_at, source_of};
 use clp_project::{ClpPin, ClpSymbol, Link, Project};
 use diagram_declarations::{Name, Title};
-use diagram_program::geometry::{COLUMNS, PLACES};
+use diagram_program::geometry::{CELL, COLUMNS, PLACES};
 use std::alloc::{AllocError, Global};
+
+/// The longest name of a block: over a contact on its output `.Q` is written after it.
+const LONGEST_OF_BLOCK: usize = CELL - 2;
 
 /// What is opened: a compare, or a contact on a step of a sequential chart.
 #[derive(Clone, Copy, PartialEq, Eq, PartialOrd, Ord)]
@@ -32,6 +35,7 @@ pub(crate) struct Used {
 }
 
 impl Used {
+    /// A variable of the project that needs a name in the program.
     fn new(source: ClpOperand, number: u32) -> Used {
         Used {
             source,
@@ -54,7 +58,7 @@ pub(crate) struct Named {
     pub(crate) alias: Option<Title>,
 }
 
-/// What ClassicLadder writes before the number of the variable.
+/// The letters before the number in ClassicLadder's name of a variable, as `I` in `%I3`.
 fn letters(source: ClpOperand) -> &'static [u8] {
     match source {
         ClpOperand::Input => b"I",
@@ -67,7 +71,7 @@ fn letters(source: ClpOperand) -> &'static [u8] {
     }
 }
 
-/// What the element at a place uses.
+/// The variable or block that the element at a place uses.
 pub(crate) fn used_at(sheet: &DrawnRung<'_>, row: usize, column: usize) -> Option<Used>
     requires { (row < ROWS) × (column < COLUMNS) }
 {
@@ -92,7 +96,7 @@ pub(crate) fn used_at(sheet: &DrawnRung<'_>, row: usize, column: usize) -> Optio
     }
 }
 
-/// Adds it where it isn't there yet, in order.
+/// Adds a variable or block to those that are used, in order, unless it is there.
 fn add_used(used: &mut Vec<Used>, new: Used) -> Result<(), AllocError> {
     if let Err(place) = used.binary_search(&new) {
         used.insert(place, new)?;
@@ -100,6 +104,7 @@ fn add_used(used: &mut Vec<Used>, new: Used) -> Result<(), AllocError> {
     Ok(())
 }
 
+/// Adds what the elements of a rung use, each variable and block once.
 fn add_sheet(used: &mut Vec<Used>, sheet: &DrawnRung<'_>) -> Result<(), AllocError> {
     for place in 0..PLACES {
         let (row, column) = (place / COLUMNS, place % COLUMNS);
@@ -112,7 +117,7 @@ fn add_sheet(used: &mut Vec<Used>, sheet: &DrawnRung<'_>) -> Result<(), AllocErr
     Ok(())
 }
 
-/// What the elements use that are drawn.
+/// All variables and blocks that the drawn elements use.
 pub(crate) fn used_in(alloc: Global, sheets: &[DrawnRung<'_>]) -> Result<Vec<Used>, AllocError> {
     let mut used = Vec::new(alloc);
     for sheet in sheets {
@@ -121,6 +126,7 @@ pub(crate) fn used_in(alloc: Global, sheets: &[DrawnRung<'_>]) -> Result<Vec<Use
     Ok(used)
 }
 
+/// Adds the blocks that are drawn in a rung.
 fn add_blocks(blocks: &mut Vec<BlockRef>, sheet: &DrawnRung<'_>) -> Result<(), AllocError> {
     for place in 0..PLACES {
         if let Some(block) = sheet.block_at(place / COLUMNS, place % COLUMNS) {
@@ -142,7 +148,7 @@ pub(crate) fn drawn_blocks(
     Ok(blocks)
 }
 
-/// The block that it is, where that is drawn.
+/// The block that is meant, if its element is drawn somewhere.
 fn drawn_block(sheets: &[DrawnRung<'_>], used: Used) -> Option<BlockRef> {
     let ClpOperand::Done(sort) = used.source else {
         return None;
@@ -159,7 +165,7 @@ fn drawn_block(sheets: &[DrawnRung<'_>], used: Used) -> Option<BlockRef> {
     None
 }
 
-/// The blocks among them that are drawn, in order.
+/// The blocks that are drawn, out of what is used, in order.
 pub(crate) fn blocks_in(
     alloc: Global,
     sheets: &[DrawnRung<'_>],
@@ -174,7 +180,7 @@ pub(crate) fn blocks_in(
     Ok(blocks)
 }
 
-/// How ClassicLadder writes a variable or a block.
+/// The name that ClassicLadder gives a variable or block, as `%I3`.
 pub(crate) fn variable_of(used: Used) -> Word {
     let mut variable = Word::new();
     variable.add(b"%");
@@ -182,7 +188,7 @@ pub(crate) fn variable_of(used: Used) -> Word {
     variable
 }
 
-/// The symbol of a variable or a block.
+/// The symbol that the project has for a variable or block.
 pub(crate) fn symbol_of<'p, 'a>(project: &'p Project<'a>, used: Used) -> Option<&'p ClpSymbol<'a>> {
     if used.opened.is_some() {
         return None;
@@ -196,7 +202,7 @@ pub(crate) fn symbol_of<'p, 'a>(project: &'p Project<'a>, used: Used) -> Option<
     None
 }
 
-/// The symbol as a name: what can't be in a name becomes an underscore.
+/// A symbol as a name of the program: each byte that can't be in a name becomes an underscore.
 fn cleaned(symbol: &[u8]) -> Word {
     let mut name = Word::new();
     let mut gap = false;
@@ -219,9 +225,9 @@ fn cleaned(symbol: &[u8]) -> Word {
     name
 }
 
-/// The name, where it is one that may be given to this, and no other has it.
+/// The name of these bytes, if it is short enough to be written over a cell and no other variable or block has it.
 fn free_name(named: &[Named], is_block: bool, bytes: &[u8]) -> Option<Name> {
-    let longest = if is_block { 9 } else { 11 };
+    let longest = if is_block { LONGEST_OF_BLOCK } else { CELL };
     if bytes.len() > longest {
         return None;
     }
@@ -234,7 +240,7 @@ fn free_name(named: &[Named], is_block: bool, bytes: &[u8]) -> Option<Name> {
     Some(name)
 }
 
-/// What a plain name begins with.
+/// The letters that a plain name begins with, as `I` in `I3`.
 fn letters_of(used: Used) -> &'static [u8] {
     match used.opened {
         Some(opened) if opened.is_step => b"X",
@@ -243,7 +249,7 @@ fn letters_of(used: Used) -> &'static [u8] {
     }
 }
 
-/// Whether it stands for a block that isn't drawn: a variable that is never ON.
+/// Whether a variable stands for a block that isn't drawn, so that it is never ON.
 pub(crate) fn is_off(used: Used, is_block: bool) -> bool {
     match used.source {
         ClpOperand::Done(_) => !is_block,
@@ -251,7 +257,8 @@ pub(crate) fn is_off(used: Used, is_block: bool) -> bool {
     }
 }
 
-/// The letters and the number, and behind them the count of such a name, where it isn't the first.
+/// The plain name of a variable or block, as `I3`: its letters and its number, and `count` after them if the names before are
+/// taken.
 fn plain(used: Used, is_block: bool, count: u32) -> Word {
     let mut name = Word::new();
     name.add_number(letters_of(used), used.number);
@@ -264,7 +271,7 @@ fn plain(used: Used, is_block: bool, count: u32) -> Word {
     name
 }
 
-/// The symbol of it as a name, where that is free.
+/// The symbol of a variable or block as a name, if that is free.
 fn symbol_name(project: &Project<'_>, named: &[Named], used: Used, is_block: bool) -> Option<Name> {
     let symbol = symbol_of(project, used)?;
     if trimmed(symbol.name).starts_with(b"%") {
@@ -291,6 +298,8 @@ pub(crate) fn signal_of<'a>(links: &[Link<'a>], used: Used) -> Option<&'a [u8]> 
     None
 }
 
+/// The name of a variable or block: its symbol in the project, the signal of its pin, or else a plain name, the first of these that
+/// is free.
 fn name_of(
     project: &Project<'_>,
     links: &[Link<'_>],
@@ -315,7 +324,7 @@ fn name_of(
     None
 }
 
-/// It with its name, where it has one. None has an alias yet.
+/// A variable or block with the name that it gets, if one is free. Its alias is given later.
 fn named_of(
     project: &Project<'_>,
     links: &[Link<'_>],
@@ -337,7 +346,7 @@ fn named_of(
     })
 }
 
-/// A name for each, where there is one.
+/// All that is used, with names.
 pub(crate) fn names_of(
     alloc: Global,
     project: &Project<'_>,
@@ -354,7 +363,7 @@ pub(crate) fn names_of(
     Ok(named)
 }
 
-/// What it is called.
+/// The variable or block with its name.
 pub(crate) fn name_in(named: &[Named], used: Used) -> Option<&Named> {
     for other in named {
         if other.used == used {

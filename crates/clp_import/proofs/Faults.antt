@@ -17,10 +17,7 @@ pub of_text : (Answers : Result Drafted DraftFault → Type 0) (reading : Readin
     → Answers (Ok d) → IsOfText reading p d.blocks.items d.text.items e → IsFault Answers reading p e
 of_text Answers reading p d fault.Memory drawn is = tt
 of_text Answers reading p d fault.NotFaithful drawn is = (d, drawn, is)
-of_text Answers reading p d fault.Refused drawn is = absurd is
-of_text Answers reading p d fault.TooManyRungs drawn is = absurd is
-of_text Answers reading p d fault.TooManyVars drawn is = absurd is
-of_text Answers reading p d fault.TooManyBlocks drawn is = absurd is
+of_text Answers reading p d _ drawn is = absurd is
 
 -- No text is two programs, so one that is another than the project is no text of it.
 compared : (reading : ReadingOptions) (p : Project) (blocks : List BlockRef) (text : List ℕ) (program : Drawing) (e : ImportFault)

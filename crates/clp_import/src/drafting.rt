@@ -39,6 +39,7 @@ pub struct Linked<'a> {
 impl Drafting for Linked<'_> {
     ghost answers = { λ _ _ _ _. Unit {0} };
 
+    /// Drafts with the signals of the HAL file for names.
     fn draft(
         &self,
         alloc: Global,

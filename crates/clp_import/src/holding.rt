@@ -15,24 +15,14 @@ use clp_meaning::{
 use clp_project::{Element, Placed, Project, ReadingOptions, writes_number};
 use diagram_program::geometry::{COLUMNS, PLACES};
 
+/// Whether an element is a coil of any mode.
 fn is_coil(meaning: Meaning) -> bool
     ensures { IsTrue result ↔ IsCoil meaning }
 {
-    match meaning {
-        Meaning::Coil(_) => true,
-        Meaning::Blank
-        | Meaning::Wire
-        | Meaning::Contact(_)
-        | Meaning::Opened(_)
-        | Meaning::Jump
-        | Meaning::Block(_)
-        | Meaning::Off
-        | Meaning::Operate
-        | Meaning::Other => false,
-    }
+    meaning.coil().is_some()
 }
 
-/// Whether a coil may write it.
+/// Whether a coil may write a variable of this sort.
 fn is_writable(source: ClpOperand) -> bool
     ensures { IsTrue result ↔ IsWritable source }
 {
@@ -42,6 +32,7 @@ fn is_writable(source: ClpOperand) -> bool
     }
 }
 
+/// Whether an element reads an input, an output or a memory of ClassicLadder, and no output of a block.
 fn is_variable(source: ClpOperand) -> bool
     ensures { IsTrue result ↔ IsVariable source }
 {
@@ -51,7 +42,7 @@ fn is_variable(source: ClpOperand) -> bool
     }
 }
 
-/// Whether the number of such an element is one that a program writes out.
+/// Whether the number of an element is part of an address, or of a label, in a program.
 fn has_address(meaning: Meaning, source: ClpOperand) -> bool
     ensures { IsTrue result ↔ HasAddress meaning source }
 {
@@ -87,7 +78,7 @@ fn is_refused_kind(reading: ReadingOptions, project: &Project<'_>, element: Elem
 }
 
 /// Whether no element is of a kind that can't be carried over. Where power comes from there isn't known, so that others
-/// behind it may have it.
+/// after it may have it.
 #[tactic(auto, unfolding(crate::specs::Refusals::HasNoRefusedKind))]
 pub(crate) fn has_no_refused_kind(
     reading: ReadingOptions,
@@ -105,7 +96,7 @@ pub(crate) fn has_no_refused_kind(
     true
 }
 
-/// Whether the element stands in a column where it means something else, or is a compare without its places.
+/// Whether an element is in a column where it means something else in a program, or is a compare without its places.
 #[tactic(auto, unfolding(clp_meaning::specs::Sheets::Stands))]
 fn is_out_of_place(reading: ReadingOptions, elements: &[Element], row: usize, column: usize) -> bool
     requires { (row < ROWS) × (column < COLUMNS) }
@@ -123,7 +114,7 @@ fn is_out_of_place(reading: ReadingOptions, elements: &[Element], row: usize, co
     }
 }
 
-/// Whether something that writes or jumps is below a jump.
+/// Whether an element is a jump with something below it, in its column, that writes or jumps.
 fn is_above_effect(reading: ReadingOptions, elements: &[Element], row: usize, column: usize) -> bool
     requires { (row < ROWS) × (column < COLUMNS) }
     ensures { IsTrue result ↔ IsAboveEffect reading elements.now row column }
@@ -133,7 +124,7 @@ fn is_above_effect(reading: ReadingOptions, elements: &[Element], row: usize, co
         && !ends_rung(reading, elements, row, column)
 }
 
-/// Whether it is an old timer with a control of its own.
+/// Whether an element is an old timer with a control of its own, which no block has.
 #[tactic(auto, unfolding(clp_meaning::specs::Sheets::Stands))]
 fn is_switched(reading: ReadingOptions, elements: &[Element], row: usize, column: usize) -> bool
     requires { (row < ROWS) × (column < COLUMNS) }
@@ -144,7 +135,7 @@ fn is_switched(reading: ReadingOptions, elements: &[Element], row: usize, column
         && !stands(reading, elements, row, column)
 }
 
-/// Whether it is a coil that writes though no power can come to it.
+/// Whether an element is a coil that writes though no power can come to it.
 fn is_unpowered(
     reading: ReadingOptions,
     project: &Project<'_>,
@@ -172,21 +163,13 @@ pub(crate) fn has_preset(project: &Project<'_>, sort: BlockSort, number: u32) ->
     }
 }
 
-/// Whether it is a block that has none.
+/// Whether an element is a block without a kind and a preset that a program can have.
 fn lacks_preset(project: &Project<'_>, meaning: Meaning, number: u32) -> bool
     ensures { IsTrue result ↔ LacksPreset project.now meaning number }
 {
-    match meaning {
-        Meaning::Block(sort) => !has_preset(project, sort, number),
-        Meaning::Blank
-        | Meaning::Wire
-        | Meaning::Contact(_)
-        | Meaning::Opened(_)
-        | Meaning::Coil(_)
-        | Meaning::Jump
-        | Meaning::Off
-        | Meaning::Operate
-        | Meaning::Other => false,
+    match meaning.block() {
+        Some(sort) => !has_preset(project, sort, number),
+        None => false,
     }
 }
 
@@ -255,22 +238,15 @@ fn is_drawn_twice(
     requires { place < PLACES }
     ensures { IsTrue result ↔ IsDrawnTwice reading rungs.now meaning number rung place }
 {
-    let sort = match meaning {
-        Meaning::Block(sort) => sort,
-        Meaning::Off => BlockSort::Timer,
-        Meaning::Blank
-        | Meaning::Wire
-        | Meaning::Contact(_)
-        | Meaning::Opened(_)
-        | Meaning::Coil(_)
-        | Meaning::Jump
-        | Meaning::Operate
-        | Meaning::Other => return false,
+    let sort = match meaning.block() {
+        Some(sort) => sort,
+        None if meaning == Meaning::Off => BlockSort::Timer,
+        None => return false,
     };
     is_drawn_elsewhere(reading, rungs, BlockRef { sort, number }, rung, place)
 }
 
-/// Whether the rung in this place in the scan is of the section, and has the number.
+/// Whether the rung at the place `target` of the scan is that of the section with this number.
 fn is_target(rungs: &[Placed<'_>], section: u32, number: u32, target: usize) -> bool
     ensures { IsTrue result ↔ IsTarget rungs.now section number target }
 {
@@ -299,7 +275,7 @@ fn is_other(class: u32) -> bool
     source_of(class) == ClpOperand::Other && class != 30 && class != 11
 }
 
-/// Whether it is a block without its four places.
+/// Whether an element is a block without its four places.
 fn lacks_places(reading: ReadingOptions, elements: &[Element], row: usize, column: usize) -> bool
     requires { (row < ROWS) × (column < COLUMNS) }
     ensures { IsTrue result ↔ LacksPlaces reading elements.now row column }
@@ -308,7 +284,7 @@ fn lacks_places(reading: ReadingOptions, elements: &[Element], row: usize, colum
         && !has_places(reading, elements, row, column)
 }
 
-/// Whether power comes to the element from the second output of an old timer.
+/// Whether power comes to an element from the second output of an old timer.
 fn is_run(reading: ReadingOptions, elements: &[Element], row: usize, column: usize) -> bool
     requires { (row < ROWS) × (column < COLUMNS) }
     ensures { IsTrue result ↔ IsRun reading elements.now row column }
@@ -316,7 +292,7 @@ fn is_run(reading: ReadingOptions, elements: &[Element], row: usize, column: usi
     is_run_by_any(reading, elements, &power_of(reading, elements), row, column)
 }
 
-/// Whether the reason holds of the element at a place of a rung, which has this place in the scan.
+/// Whether a reason against carrying over holds of the element at a place of a rung; `rung` is the rung's number in the scan.
 #[tactic(auto, unfolding(crate::specs::Refusals::Holds))]
 pub(crate) fn holds(
     reading: ReadingOptions,

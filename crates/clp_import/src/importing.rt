@@ -36,6 +36,7 @@ pub enum ImportFault {
     NotFaithful,
 }
 
+/// Why a project that can't be drafted has no program text.
 fn draft_fault(fault: DraftFault) -> ImportFault
     ensures { result ≡ fault_of fault }
 {
@@ -46,6 +47,7 @@ fn draft_fault(fault: DraftFault) -> ImportFault
     }
 }
 
+/// Why a drafted text is none: memory ran out, or it breaks a rule, so that the draft isn't faithful.
 fn text_fault(fault: GridFault) -> ImportFault
     ensures { (result ≡ Memory) ⊎ ((result ≡ NotFaithful) × ¬ (IsMemory fault)) }
 {
@@ -55,7 +57,7 @@ fn text_fault(fault: GridFault) -> ImportFault
     }
 }
 
-/// Whether the program has what the project has, as a result.
+/// Compares the drafted program with the project: an error if it hasn't what the project has.
 fn compared(
     reading: ReadingOptions,
     project: &Project<'_>,
@@ -72,7 +74,7 @@ fn compared(
     }
 }
 
-/// Whether the text is a program that has what the project has.
+/// Reads the drafted text and compares it with the project: an error if it isn't a program with what the project has.
 fn checked(
     alloc: Global,
     reading: ReadingOptions,
@@ -89,7 +91,7 @@ fn checked(
     }
 }
 
-/// The text as it is drawn, and then checked.
+/// Drafts the text of a project and checks it.
 fn drawn<D: Drafting>(
     alloc: Global,
     reading: ReadingOptions,
@@ -108,7 +110,7 @@ fn drawn<D: Drafting>(
     }
 }
 
-/// Whether the project may be drawn, as a result.
+/// Refuses a project with elements that can't be carried over, or with more rungs than a program may have.
 fn none_refused(
     reading: ReadingOptions,
     project: &Project<'_>,

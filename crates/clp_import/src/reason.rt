@@ -11,7 +11,7 @@ pub enum Reason {
     Operate,
     /// A call of a subroutine.
     Call,
-    /// This kind of element isn't known, or stands in a block.
+    /// This kind of element isn't known, or is inside a block.
     Unknown,
     /// A contact on a step of a sequential chart.
     Step,

@@ -25,7 +25,7 @@ pub struct Refusal {
     pub reason: Reason,
 }
 
-/// Where an element stands: in which rung of the project, and in which row and column of it.
+/// Where an element is: in which rung of the project, and in which row and column of it.
 #[derive(Clone, Copy)]
 struct Spot {
     rung: usize,
@@ -35,7 +35,7 @@ struct Spot {
     ghost columns: { column < COLUMNS },
 }
 
-/// The reason as a refusal, where it holds.
+/// The refusal of an element for a reason, if the reason holds.
 fn refused(
     reading: ReadingOptions,
     project: &Project<'_>,
@@ -60,12 +60,12 @@ fn refused(
     }
 }
 
-/// The reason, unless the element is carried over.
+/// The reason, unless the element can be carried over.
 fn unless(carried: bool, reason: Reason) -> Option<Reason> {
     if carried { None } else { Some(reason) }
 }
 
-/// What keeps an element from being carried over by its kind alone.
+/// The reason against an element by its kind alone.
 fn kind_reason(reading: ReadingOptions, project: &Project<'_>, element: Element) -> Option<Reason> {
     match element.kind {
         12 => Some(Reason::Counter),
@@ -79,11 +79,12 @@ fn kind_reason(reading: ReadingOptions, project: &Project<'_>, element: Element)
     }
 }
 
+/// The reason against a variable's number of more than five digits.
 fn large_number(element: Element) -> Option<Reason> {
     unless(element.number <= 99999, Reason::LargeNumber)
 }
 
-/// How often the block is drawn.
+/// How often a block is drawn in the project.
 fn count_of(blocks: &[BlockRef], sort: BlockSort, number: u32) -> usize {
     let block = BlockRef { sort, number };
     let mut count = 0usize;
@@ -95,7 +96,7 @@ fn count_of(blocks: &[BlockRef], sort: BlockSort, number: u32) -> usize {
     count
 }
 
-/// What keeps a contact from being read.
+/// The reason against a contact, by what it reads.
 fn contact_reason(element: Element) -> Option<Reason> {
     match source_of(element.class) {
         ClpOperand::Input | ClpOperand::Output | ClpOperand::Memory => large_number(element),
@@ -112,6 +113,7 @@ fn contact_reason(element: Element) -> Option<Reason> {
     }
 }
 
+/// The reason against a coil: it writes an input, or something that is no variable.
 fn coil_reason(element: Element) -> Option<Reason> {
     match source_of(element.class) {
         ClpOperand::Output | ClpOperand::Memory => large_number(element),
@@ -120,6 +122,7 @@ fn coil_reason(element: Element) -> Option<Reason> {
     }
 }
 
+/// The reason against a jump: its target isn't below it in the same section.
 fn jump_reason(project: &Project<'_>, rung: usize, element: Element) -> Option<Reason> {
     match project.rungs.get(rung) {
         Some(placed) if has_later(&project.rungs, rung, placed.section, element.number) =>
@@ -128,6 +131,7 @@ fn jump_reason(project: &Project<'_>, rung: usize, element: Element) -> Option<R
     }
 }
 
+/// The reason against a timer: it has no preset, or it is drawn twice.
 fn block_reason(
     project: &Project<'_>,
     blocks: &[BlockRef],
@@ -143,7 +147,7 @@ fn block_reason(
     }
 }
 
-/// What keeps an element from standing where it is.
+/// The reason against an element by its place in the rung.
 fn place_reason(
     reading: ReadingOptions,
     elements: &[Element],
@@ -179,7 +183,7 @@ fn place_reason(
     }
 }
 
-/// What keeps an element from being carried over, to which power can come.
+/// The reason against an element to which power can come, by what it means.
 fn drawn_reason(
     project: &Project<'_>,
     blocks: &[BlockRef],
@@ -205,21 +209,6 @@ fn drawn_reason(
     }
 }
 
-fn is_blank(meaning: Meaning) -> bool {
-    match meaning {
-        Meaning::Blank => true,
-        Meaning::Wire
-        | Meaning::Contact(_)
-        | Meaning::Opened(_)
-        | Meaning::Coil(_)
-        | Meaning::Jump
-        | Meaning::Block(_)
-        | Meaning::Off
-        | Meaning::Operate
-        | Meaning::Other => false,
-    }
-}
-
 /// Why the element at a place can't be carried over.
 fn reason_at(
     reading: ReadingOptions,
@@ -240,7 +229,7 @@ fn reason_at(
     if meaning == Meaning::Other {
         return Some(Reason::Unknown);
     }
-    if is_blank(meaning) {
+    if meaning == Meaning::Blank {
         return None;
     }
     if !power[column][row] {

@@ -2,7 +2,9 @@
 use Rattle.std.specs.Prelude.{◌≡◌, ℕ, ◌*◌, ◌==◌, ◌||◌, nat_le, not, Bool, List, Option, Some, None, option_map, if◌then◌else◌}
 use Rattle.diagram_declarations.specs.declared.kind.BlockKind.{BlockKind}
 use Rattle.diagram_declarations.specs.declared.kind.BlockKind.TheVariants as kind
+use Rattle.diagram_program.specs.declared.mode.Mode.{Mode}
 use Rattle.diagram_program.specs.declared.mode.Mode.TheVariants as mode
+use Rattle.diagram_program.specs.declared.mode.CoilMode.{CoilMode}
 use Rattle.diagram_program.specs.declared.mode.CoilMode.TheVariants as coil
 use Rattle.clp_project.specs.declared.element.Element.{Element}
 use Rattle.clp_project.specs.declared.project.Project.{Project}
@@ -38,6 +40,17 @@ meaning_of k =
     else (if k == 52 then meaning.Coil coil.Set
     else (if k == 53 then meaning.Coil coil.Reset
     else (if k == 54 then meaning.Jump else meaning.Other)))))))))))))
+
+-- ---- what a meaning has
+
+abbrev pub contact_in : Meaning → Option Mode
+contact_in m = elim m [ meaning.Contact mode ↦ Some mode | _ ↦ None ]
+
+abbrev pub coil_in : Meaning → Option CoilMode
+coil_in m = elim m [ meaning.Coil mode ↦ Some mode | _ ↦ None ]
+
+abbrev pub block_in : Meaning → Option BlockSort
+block_in m = elim m [ meaning.Block sort ↦ Some sort | _ ↦ None ]
 
 -- ---- what is opened
 

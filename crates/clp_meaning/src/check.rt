@@ -17,6 +17,7 @@ use diagram_declarations::{Address, Decls, Instance, Var};
 use diagram_program::geometry::{COLUMNS, PLACES, Place, ROWS};
 use diagram_program::{Cell, CoilMode, Mode, Operand, Program};
 
+/// Whether a declaration has this address.
 fn is_at(place: Option<Address>, address: Address) -> bool
     ensures { IsTrue result ↔ (place ≡ Some address) }
 {
@@ -59,7 +60,7 @@ fn opened_at(at: Place) -> Address
     }
 }
 
-/// Whether the instance stands for the block.
+/// Whether an instance of the program is that of a block of the project.
 fn is_instance_of(blocks: &[BlockRef], block: BlockRef, inst: usize) -> bool
     ensures { IsTrue result ↔ (slice_get blocks.now inst ≡ Some block) }
 {
@@ -69,7 +70,7 @@ fn is_instance_of(blocks: &[BlockRef], block: BlockRef, inst: usize) -> bool
     }
 }
 
-/// Whether the variable is always OFF.
+/// Whether the variable is always OFF: it is no input, and no coil writes it.
 fn is_never(program: &Program, var: usize) -> bool
     ensures { IsTrue result ↔ IsNever program.now var }
 {
@@ -80,7 +81,7 @@ fn is_never(program: &Program, var: usize) -> bool
     !is_input && !program.has_coil(var)
 }
 
-/// Whether the variable is what a contact reads.
+/// Whether the variable of the program is what a contact of the project reads.
 fn is_var_read(
     program: &Program,
     blocks: &[BlockRef],
@@ -101,6 +102,7 @@ fn is_var_read(
     }
 }
 
+/// Whether a contact of the program reads what its element reads: the same variable, or the output of the same block.
 fn is_operand(
     program: &Program,
     blocks: &[BlockRef],
@@ -120,7 +122,7 @@ fn is_operand(
     }
 }
 
-/// Whether the variable is what a coil writes.
+/// Whether the variable of the program is what a coil of the project writes.
 fn is_written(program: &Program, source: ClpOperand, number: u32, var: usize) -> bool
     ensures { IsTrue result ↔ IsWritten program.now source number var }
 {
@@ -152,19 +154,10 @@ fn is_contact_on(
 ) -> bool
     ensures { IsTrue result ↔ IsContactOn program.now blocks.now mode source number cell }
 {
-    match cell {
-        Cell::Contact {
-            mode: drawn,
-            operand,
-            ..
-        } => drawn == mode && is_operand(program, blocks, source, number, operand),
-        Cell::Empty
-        | Cell::Wire
-        | Cell::Coil { .. }
-        | Cell::Block { .. }
-        | Cell::Lower { .. }
-        | Cell::Jump { .. }
-        | Cell::Return => false,
+    match cell.contact() {
+        Some((drawn, operand)) => drawn == mode
+            && is_operand(program, blocks, source, number, operand),
+        None => false,
     }
 }
 
@@ -172,23 +165,10 @@ fn is_contact_on(
 fn is_contact_at(program: &Program, mode: Mode, address: Address, cell: Cell) -> bool
     ensures { IsTrue result ↔ IsContactAt program.now mode address cell }
 {
-    match cell {
-        Cell::Contact {
-            mode: drawn,
-            operand: Operand::Var(var),
-            ..
-        } => drawn == mode && is_declared_at(program.decls(), address, var),
-        Cell::Contact {
-            operand: Operand::Output(_),
-            ..
-        }
-        | Cell::Empty
-        | Cell::Wire
-        | Cell::Coil { .. }
-        | Cell::Block { .. }
-        | Cell::Lower { .. }
-        | Cell::Jump { .. }
-        | Cell::Return => false,
+    match cell.contact() {
+        Some((drawn, Operand::Var(var))) => drawn == mode
+            && is_declared_at(program.decls(), address, var),
+        Some((_, Operand::Output(_))) | None => false,
     }
 }
 
@@ -202,22 +182,13 @@ fn is_coil_on(
 ) -> bool
     ensures { IsTrue result ↔ IsCoilOn program.now mode source number cell }
 {
-    match cell {
-        Cell::Coil {
-            mode: drawn,
-            var,
-            ..
-        } => drawn == mode && is_written(program, source, number, var),
-        Cell::Empty
-        | Cell::Wire
-        | Cell::Contact { .. }
-        | Cell::Block { .. }
-        | Cell::Lower { .. }
-        | Cell::Jump { .. }
-        | Cell::Return => false,
+    match cell.coil() {
+        Some((drawn, var)) => drawn == mode && is_written(program, source, number, var),
+        None => false,
     }
 }
 
+/// Whether a cell jumps to the rung that has this number in the project.
 fn is_jump_to(rungs: &[Placed<'_>], section: u32, number: u32, cell: Cell) -> bool
     ensures { IsTrue result ↔ IsJumpTo rungs.now section number cell }
 {
@@ -233,18 +204,13 @@ fn is_jump_to(rungs: &[Placed<'_>], section: u32, number: u32, cell: Cell) -> bo
     }
 }
 
+/// Whether a cell is a block of the instance that this block of the project became.
 fn is_block_of(blocks: &[BlockRef], block: BlockRef, cell: Cell) -> bool
     ensures { IsTrue result ↔ IsBlockOf blocks.now block cell }
 {
-    match cell {
-        Cell::Block { inst } => is_instance_of(blocks, block, inst),
-        Cell::Empty
-        | Cell::Wire
-        | Cell::Contact { .. }
-        | Cell::Coil { .. }
-        | Cell::Lower { .. }
-        | Cell::Jump { .. }
-        | Cell::Return => false,
+    match cell.block() {
+        Some(inst) => is_instance_of(blocks, block, inst),
+        None => false,
     }
 }
 
@@ -257,7 +223,7 @@ struct MeantElement {
     meaning: Meaning,
 }
 
-/// Whether the cell is what the element means.
+/// Whether a cell of the program is what an element of the project means.
 #[tactic(auto, unfolding(crate::specs::Carried::IsCell))]
 fn is_cell(
     program: &Program,
@@ -292,7 +258,7 @@ fn is_cell(
     }
 }
 
-/// Whether no power comes to the element, and it does nothing then.
+/// Whether a cell is empty in the place of an element that may be left out: no power comes to it, and it does nothing then.
 #[tactic(auto, unfolding(crate::specs::Carried::IsLeftOut))]
 fn is_left_out(
     reading: ReadingOptions,
@@ -312,7 +278,7 @@ fn is_left_out(
         && is_idle(meaning_at(reading, elements, row, column))
 }
 
-/// Whether the cell is fed from the row as the element is; `before`: where power can come to in the column before.
+/// Whether a cell is fed from a row exactly where its element is; `before` says which rows of the column before power can reach.
 fn is_fed_alike(
     reading: ReadingOptions,
     program: &Program,
@@ -329,7 +295,7 @@ fn is_fed_alike(
     program.feeds(at, from) == fed(reading, elements, at.row, at.column, from, before)
 }
 
-/// Whether the cell is fed from the same rows.
+/// Whether a cell is fed from the same rows as its element.
 fn are_fed_alike(
     reading: ReadingOptions,
     program: &Program,
@@ -350,7 +316,7 @@ fn are_fed_alike(
     true
 }
 
-/// Whether a cell is fed as its element is, which stands where it means the same.
+/// Whether a cell is fed as its element is, if that is in a place where it means the same.
 fn is_alike(
     reading: ReadingOptions,
     program: &Program,
@@ -367,7 +333,8 @@ fn is_alike(
         && are_fed_alike(reading, program, at, elements, power)
 }
 
-/// Whether a place has what the project has there.
+/// Whether a place of the program has what the project has there: the same cell, fed from the same rows, or nothing where nothing
+/// is done.
 fn is_place_carried(
     reading: ReadingOptions,
     program: &Program,
@@ -396,6 +363,7 @@ fn is_place_carried(
         && (cell == Cell::Empty || is_alike(reading, program, at, elements, power))
 }
 
+/// Whether each place of a rung has in the program what it means in the project.
 fn is_rung_carried(
     reading: ReadingOptions,
     program: &Program,
@@ -422,7 +390,7 @@ fn is_rung_carried(
     true
 }
 
-/// Whether each rung has what the project has.
+/// Whether each rung of the program has what the project has in it.
 fn are_carried(
     reading: ReadingOptions,
     program: &Program,
@@ -440,7 +408,7 @@ fn are_carried(
     true
 }
 
-/// Whether the block is none of them.
+/// Whether a block isn't one of several.
 fn is_none_of(mut others: &[BlockRef], block: BlockRef) -> bool
     ensures { IsTrue result ↔ IsNoneOf others.entry.now block }
 {
@@ -453,7 +421,7 @@ fn is_none_of(mut others: &[BlockRef], block: BlockRef) -> bool
     true
 }
 
-/// Whether no block is twice among them.
+/// Whether no block comes twice in a list.
 fn are_apart(mut blocks: &[BlockRef]) -> bool
     ensures { IsTrue result ↔ AreApart blocks.entry.now }
 {
@@ -466,6 +434,7 @@ fn are_apart(mut blocks: &[BlockRef]) -> bool
     true
 }
 
+/// Whether an instance is declared with the kind and the preset of this block, in ms.
 fn is_instance(project: &Project<'_>, block: BlockRef, instance: Instance) -> bool
     ensures { IsTrue result ↔ IsInstance project.now block instance }
 {
@@ -495,7 +464,7 @@ fn are_instances(project: &Project<'_>, mut blocks: &[BlockRef], mut instances: 
     instances.is_empty()
 }
 
-/// Whether the element is no operate, or writes a number.
+/// Whether an element is no operate, or one that writes a number: no diagram shows what is done with numbers.
 #[tactic(auto, unfolding(crate::specs::Carried::IsUnseen))]
 fn is_unseen(expressions: &[Expression<'_>], element: Element) -> bool
     ensures { IsTrue result ↔ IsUnseen expressions.now element }
@@ -503,6 +472,7 @@ fn is_unseen(expressions: &[Expression<'_>], element: Element) -> bool
     element.kind != 60 || writes_number(expressions, element.number)
 }
 
+/// Whether no element of a rung shows what is watched of the expressions.
 #[tactic(auto, unfolding(crate::specs::Carried::AreUnseen))]
 fn are_unseen(expressions: &[Expression<'_>], placed: &Placed<'_>) -> bool
     ensures { IsTrue result ↔ AreUnseen expressions.now placed.now }
@@ -517,7 +487,7 @@ fn are_unseen(expressions: &[Expression<'_>], placed: &Placed<'_>) -> bool
     true
 }
 
-/// Whether no operate writes a bit.
+/// Whether no operate of the project is one that writes a bit, which a program can't.
 fn all_unseen(expressions: &[Expression<'_>], mut rungs: &[Placed<'_>]) -> bool
     ensures { IsTrue result ↔ All (AreUnseen expressions.now) rungs.entry.now }
 {
@@ -530,7 +500,7 @@ fn all_unseen(expressions: &[Expression<'_>], mut rungs: &[Placed<'_>]) -> bool
     true
 }
 
-/// Whether all variables begin as OFF.
+/// Whether all variables of the program begin as OFF, as in ClassicLadder.
 fn are_off(mut vars: &[Var]) -> bool
     ensures { result ≡ list_all (λ v. not v.initial) vars.entry.now }
 {

@@ -1,4 +1,4 @@
-//! The rungs of ClassicLadder: what their elements mean, where they may stand, how power goes through them, and the check that a program has the meaning of a project.
+//! The rungs of ClassicLadder: what their elements mean, where they may be, how power goes through them, and the check that a program has the meaning of a project.
 #![tactic(auto)]
 
 mod check;

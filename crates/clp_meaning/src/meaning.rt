@@ -2,7 +2,7 @@
 
 ghost use Rattle.std.specs.Prelude.{◌≡◌, ◌↔◌, Some, slice_get};
 ghost use Rattle.clp_meaning.specs.declared.meaning.Timed.{Timed};
-ghost use Rattle.clp_meaning.specs.Meanings.{IsTimed, element_meaning, meaning_of, source_of, table_of};
+ghost use Rattle.clp_meaning.specs.Meanings.{IsTimed, block_in, coil_in, contact_in, element_meaning, meaning_of, source_of, table_of};
 
 use clp_project::{Element, Preset, Project, ReadingOptions};
 use diagram_declarations::BlockKind;
@@ -46,6 +46,62 @@ pub enum Meaning {
     Other,
 }
 
+impl Meaning {
+    /// The mode of a contact.
+    pub fn contact(self) -> Option<Mode>
+        ensures { result ≡ contact_in self }
+    {
+        match self {
+            Meaning::Contact(mode) => Some(mode),
+            Meaning::Blank
+            | Meaning::Wire
+            | Meaning::Opened(_)
+            | Meaning::Coil(_)
+            | Meaning::Jump
+            | Meaning::Block(_)
+            | Meaning::Off
+            | Meaning::Operate
+            | Meaning::Other => None,
+        }
+    }
+
+    /// The mode of a coil.
+    pub fn coil(self) -> Option<CoilMode>
+        ensures { result ≡ coil_in self }
+    {
+        match self {
+            Meaning::Coil(mode) => Some(mode),
+            Meaning::Blank
+            | Meaning::Wire
+            | Meaning::Contact(_)
+            | Meaning::Opened(_)
+            | Meaning::Jump
+            | Meaning::Block(_)
+            | Meaning::Off
+            | Meaning::Operate
+            | Meaning::Other => None,
+        }
+    }
+
+    /// The sort of a block.
+    pub fn block(self) -> Option<BlockSort>
+        ensures { result ≡ block_in self }
+    {
+        match self {
+            Meaning::Block(sort) => Some(sort),
+            Meaning::Blank
+            | Meaning::Wire
+            | Meaning::Contact(_)
+            | Meaning::Opened(_)
+            | Meaning::Coil(_)
+            | Meaning::Jump
+            | Meaning::Off
+            | Meaning::Operate
+            | Meaning::Other => None,
+        }
+    }
+}
+
 /// What a contact reads or a coil writes.
 #[derive(Clone, Copy, PartialEq, Eq, PartialOrd, Ord)]
 pub enum ClpOperand {
@@ -61,7 +117,7 @@ pub enum ClpOperand {
     Other,
 }
 
-/// What an element of this kind means.
+/// What an element of this kind means, by the numbers of kinds in ClassicLadder's files.
 #[tactic(auto, unfolding(crate::specs::Meanings::meaning_of))]
 pub fn meaning_of(kind: u32) -> Meaning
     ensures { result ≡ meaning_of kind }
@@ -97,24 +153,16 @@ pub(crate) fn element_meaning(reading: ReadingOptions, element: Element) -> Mean
     } else if element.kind == 60 {
         Meaning::Operate
     } else if element.class == 30 {
-        match meaning {
-            Meaning::Contact(mode) => Meaning::Opened(mode),
-            Meaning::Blank
-            | Meaning::Wire
-            | Meaning::Opened(_)
-            | Meaning::Coil(_)
-            | Meaning::Jump
-            | Meaning::Block(_)
-            | Meaning::Off
-            | Meaning::Operate
-            | Meaning::Other => meaning,
+        match meaning.contact() {
+            Some(mode) => Meaning::Opened(mode),
+            None => meaning,
         }
     } else {
         meaning
     }
 }
 
-/// What a variable of this sort is.
+/// What the class of an element's variable stands for: an input, an output, a memory, or the output of a block.
 pub fn source_of(class: u32) -> ClpOperand
     ensures { result ≡ source_of class }
 {
@@ -137,7 +185,7 @@ pub struct Timed {
     pub preset: u64,
 }
 
-/// What a block of this sort is that has this entry in its table.
+/// The kind and the preset, in ms, of a timer with this entry in its table.
 pub fn timed_as(sort: BlockSort, preset: Option<Preset>) -> Option<Timed>
     ensures { (timed : Timed) → (result ≡ Some timed) ↔ IsTimed sort preset timed }
 {

@@ -13,7 +13,7 @@ use diagram_program::geometry::{COLUMNS, ROWS};
 /// For each column to which of its rows power can come.
 pub type Power = [[bool; ROWS]; COLUMNS];
 
-/// Whether power goes through.
+/// Whether power gets through an element with this meaning.
 pub fn passes(meaning: Meaning) -> bool
     ensures { IsTrue result ↔ Passes meaning }
 {
@@ -99,6 +99,7 @@ fn reaches(
     false
 }
 
+/// Which rows of a column power can reach from the column before.
 fn reached_in(
     reading: ReadingOptions,
     elements: &[Element],

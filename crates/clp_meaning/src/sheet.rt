@@ -1,4 +1,4 @@
-//! The elements of a rung, and where they may stand.
+//! The elements of a rung, and where they may be.
 
 ghost use Rattle.std.specs.Prelude.{◌≡◌, ◌↔◌, ◌<◌, ◌≤◌, IsTrue};
 ghost use Rattle.diagram_program.specs.declared.geometry.TheConstants.{COLUMNS, ROWS, PLACES};
@@ -33,6 +33,7 @@ pub fn element_at(elements: &[Element], row: usize, column: usize) -> Element
     }
 }
 
+/// Whether nothing is drawn at a place: kinds from 99 on only fill the room of a block.
 fn is_blank_at(elements: &[Element], row: usize, column: usize) -> bool
     requires { row ≤ ROWS }
     ensures { result ≡ is_blank_at elements.now row column }
@@ -49,21 +50,11 @@ pub fn is_linked(elements: &[Element], row: usize, column: usize) -> bool
     element_at(elements, row, column).link != 0
 }
 
+/// Whether an element is a block, as a timer or a counter.
 pub fn is_block(meaning: Meaning) -> bool
     ensures { result ≡ is_block meaning }
 {
-    match meaning {
-        Meaning::Block(_) => true,
-        Meaning::Blank
-        | Meaning::Wire
-        | Meaning::Contact(_)
-        | Meaning::Opened(_)
-        | Meaning::Coil(_)
-        | Meaning::Jump
-        | Meaning::Off
-        | Meaning::Operate
-        | Meaning::Other => false,
-    }
+    meaning.block().is_some()
 }
 
 /// Whether the place is a part of an element whose place is to the right.
@@ -108,7 +99,7 @@ pub fn is_taken_on(reading: ReadingOptions, elements: &[Element], row: usize, co
     reading.control_on && is_uncontrolled(reading, elements, row, column)
 }
 
-/// What the element at a place means.
+/// What the element at a place means, with the elements around it considered.
 #[tactic(auto, unfolding(crate::specs::Sheets::meaning_at))]
 pub fn meaning_at(
     reading: ReadingOptions,
@@ -136,6 +127,7 @@ pub fn meaning_at(
     }
 }
 
+/// Whether an element does something with the power that it gets: a coil writes, a jump leaves the rung.
 fn is_effect(meaning: Meaning) -> bool
     ensures { IsTrue result ↔ IsEffect meaning }
 {
@@ -176,7 +168,7 @@ fn is_tied(reading: ReadingOptions, elements: &[Element], row: usize, column: us
         || is_taken_on(reading, elements, row, column)
 }
 
-/// Whether a block has its four places.
+/// Whether a block has the four places that it needs to itself.
 #[tactic(auto, unfolding(crate::specs::Sheets::HasPlaces))]
 pub fn has_places(reading: ReadingOptions, elements: &[Element], row: usize, column: usize) -> bool
     requires { (row < ROWS) × (column < COLUMNS) }
@@ -191,7 +183,7 @@ pub fn has_places(reading: ReadingOptions, elements: &[Element], row: usize, col
         && !is_left_half(reading, elements, row + 1, column)
 }
 
-/// Whether a compare has its three places.
+/// Whether a compare has the three places that it needs to itself.
 fn has_row(elements: &[Element], row: usize, column: usize) -> bool
     requires { (row < ROWS) × (column < COLUMNS) }
     ensures { IsTrue result ↔ HasRow elements.now row column }
@@ -203,7 +195,7 @@ fn has_row(elements: &[Element], row: usize, column: usize) -> bool
         && !is_linked(elements, row + 1, column - 1)
 }
 
-/// Whether the element stands where it means the same in a program.
+/// Whether the element is in a place where it means the same in a program.
 #[tactic(auto, unfolding(crate::specs::Sheets::Stands, crate::specs::Sheets::HasPlaces))]
 pub fn stands(reading: ReadingOptions, elements: &[Element], row: usize, column: usize) -> bool
     requires { (row < ROWS) × (column < COLUMNS) }
@@ -226,21 +218,11 @@ pub fn stands(reading: ReadingOptions, elements: &[Element], row: usize, column:
     }
 }
 
+/// Whether an element is a contact that reads a bit.
 pub fn is_contact(meaning: Meaning) -> bool
     ensures { IsTrue result ↔ IsContact meaning }
 {
-    match meaning {
-        Meaning::Contact(_) => true,
-        Meaning::Blank
-        | Meaning::Wire
-        | Meaning::Opened(_)
-        | Meaning::Coil(_)
-        | Meaning::Jump
-        | Meaning::Block(_)
-        | Meaning::Off
-        | Meaning::Operate
-        | Meaning::Other => false,
-    }
+    meaning.contact().is_some()
 }
 
 /// Whether the block is at one of the first places, by column and row.
@@ -288,18 +270,9 @@ pub fn reads_late(reading: ReadingOptions, elements: &[Element], row: usize, col
 pub fn is_idle(meaning: Meaning) -> bool
     ensures { IsTrue result ↔ IsIdle meaning }
 {
-    match meaning {
-        Meaning::Coil(CoilMode::Set | CoilMode::Reset) => true,
-        Meaning::Coil(CoilMode::Store | CoilMode::Inverse | CoilMode::Rising | CoilMode::Falling) =>
-            false,
-        Meaning::Other => false,
-        Meaning::Blank
-        | Meaning::Wire
-        | Meaning::Contact(_)
-        | Meaning::Opened(_)
-        | Meaning::Jump
-        | Meaning::Block(_)
-        | Meaning::Off
-        | Meaning::Operate => true,
+    match meaning.coil() {
+        Some(CoilMode::Set | CoilMode::Reset) => true,
+        Some(CoilMode::Store | CoilMode::Inverse | CoilMode::Rising | CoilMode::Falling) => false,
+        None => meaning != Meaning::Other,
     }
 }

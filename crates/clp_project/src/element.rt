@@ -1,4 +1,4 @@
-//! The elements of a rung.
+//! Reads the elements of a rung: their kind, link, class and number.
 
 ghost use Rattle.std.specs.Prelude.{◌≡◌, ◌++◌, IfOk, map, option_map};
 ghost use Rattle.clp_project.specs.Rungs.{element_in, elements_in, row_in};
@@ -19,7 +19,7 @@ pub struct Element {
     pub number: u32,
 }
 
-/// The element that a field is.
+/// The element of a field: its kind, its link, its class and its number.
 #[tactic(auto, unfolding(crate::specs::Rungs::element_in))]
 fn element_in(field: &[u8]) -> Option<Element>
     ensures { result ≡ element_in field.now }
@@ -49,7 +49,7 @@ fn elements_in(alloc: Global, mut fields: &[&[u8]]) -> Result<Option<Vec<Element
     Ok(Some(elements))
 }
 
-/// The elements of a row.
+/// The elements of a row, from its line.
 #[tactic(auto, unfolding(crate::specs::Rungs::row_in))]
 pub(crate) fn row_in(alloc: Global, line: &[u8]) -> Result<Option<Vec<Element>>, AllocError>
     ensures { IfOk result (λ o. option_map (λ v. v.items) o ≡ row_in line.now) }

@@ -44,6 +44,7 @@ pub enum ClpFault {
 impl From<AllocError> for ClpFault {
     ghost from_gives = { λ _ e. e ≡ Memory };
 
+    /// Reading needed memory that there isn't.
     fn from(_error: AllocError) -> ClpFault {
         ClpFault::Memory
     }
@@ -52,6 +53,7 @@ impl From<AllocError> for ClpFault {
 impl<T: Drop> From<AllocFailed<T>> for ClpFault {
     ghost from_gives = { λ _ e. e ≡ Memory };
 
+    /// The same, where the value that found no room is handed back; it is dropped.
     fn from(_error: AllocFailed<T>) -> ClpFault {
         ClpFault::Memory
     }

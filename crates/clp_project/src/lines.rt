@@ -26,7 +26,7 @@ pub(crate) fn fields_of(alloc: Global, line: &[u8]) -> Result<Vec<&[u8]>, AllocE
     line.split(|b| *b == b',').collect(alloc)
 }
 
-/// Whether the line is this word, with blanks behind it.
+/// Whether a line is this word, with nothing but blanks after it.
 #[tactic(auto, unfolding(crate::specs::Format::is_line))]
 pub(crate) fn is_line(word: &[u8], line: &[u8]) -> bool
     ensures { result ≡ is_line word.now line.now }
@@ -34,7 +34,7 @@ pub(crate) fn is_line(word: &[u8], line: &[u8]) -> bool
     line.starts_with(word) && after_blanks(&line[word.len()..]).is_empty()
 }
 
-/// Whether the line has data.
+/// Whether a line of a table has data: it isn't blank and no remark.
 #[tactic(auto, unfolding(crate::specs::Format::is_data))]
 pub(crate) fn is_data(line: &[u8]) -> bool
     ensures { result ≡ is_data line.now }
@@ -45,6 +45,7 @@ pub(crate) fn is_data(line: &[u8]) -> bool
     }
 }
 
+/// How many lines a part of the file has before the line that ends it.
 fn body_len(lines: &[&[u8]]) -> usize
     ensures value { result ≡ prefix_len (λ l. not (ends_part l.now)) lines.now }
     ensures within { result ≤ length lines.now }
@@ -55,7 +56,7 @@ fn body_len(lines: &[&[u8]]) -> usize
         .count()
 }
 
-/// The lines up to the end of the part that they are in.
+/// The lines of a part of the file, up to the line that ends it.
 pub(crate) fn body_of<'a, 'b>(lines: &'a [&'b [u8]]) -> &'a [&'b [u8]]
     ensures { map (λ l. l.now) result.now ≡ body_of (map (λ l. l.now) lines.now) }
 {
@@ -75,7 +76,7 @@ pub(crate) fn part_of<'a, 'b>(head: &[u8], mut lines: &'a [&'b [u8]]) -> &'a [&'
     &[]
 }
 
-/// What stands behind a key at the start of the first line that has it, nothing where there is none.
+/// What follows a key at the start of the first line that has it; nothing where none has.
 pub(crate) fn value_of<'a>(key: &[u8], mut lines: &[&'a [u8]]) -> &'a [u8]
     ensures { result.now ≡ value_of key.now (map (λ l. l.now) lines.entry.now) }
 {

@@ -16,7 +16,7 @@ pub struct Link<'a> {
     pub signal: &'a [u8],
 }
 
-/// Adds a link to the signal for each word that is a pin.
+/// Adds a link between a signal and each pin among the words of a line.
 fn add_pins<'a>(
     signal: &'a [u8],
     mut words: &[&[u8]],
@@ -33,7 +33,7 @@ fn add_pins<'a>(
     Ok(())
 }
 
-/// Adds the links of a line, by its words.
+/// Adds the links of a line of a HAL file, by its words: one for each pin of ClassicLadder in a `net`.
 #[tactic(auto, unfolding(crate::specs::Hal::links_of_words))]
 fn add_words<'a>(words: &[&'a [u8]], links: &mut Vec<Link<'a>>) -> Result<(), AllocError>
     ensures { IfOk result (λ _. map link_of links.new.items ≡ map link_of links.old.items ++ links_of_words (map (λ w. w.now) words.now)) }
@@ -44,7 +44,7 @@ fn add_words<'a>(words: &[&'a [u8]], links: &mut Vec<Link<'a>>) -> Result<(), Al
     }
 }
 
-/// Adds the links of the lines.
+/// Adds the links of all lines.
 fn add_lines<'a>(
     alloc: Global,
     mut lines: &[&'a [u8]],

@@ -1,10 +1,11 @@
-//! Numbers in fields.
+//! The parts of a field, and the number in it.
 
 ghost use Rattle.std.specs.Prelude.{◌≡◌, ◌^◌, ◌≤◌, ◌==◌, IfNone, IfSome, not, length};
 ghost use Rattle.std.specs.List.{prefix_len};
 ghost use Rattle.std.specs.Char.{is_ascii_digit};
 ghost use Rattle.clp_project.specs.Format.{after_blanks, before, behind, is_blank, number_in, number_of, other_in};
 
+/// How many blanks a field begins with; the carriage return of a line end is one.
 fn blanks_len(text: &[u8]) -> usize
     ensures value { result ≡ prefix_len is_blank text.now }
     ensures within { result ≤ length text.now }
@@ -21,6 +22,7 @@ pub(crate) fn after_blanks(text: &[u8]) -> &[u8]
     &text[blanks_len(text)..]
 }
 
+/// How many bytes are before the first one that is the mark.
 fn length_before(mark: u8, text: &[u8]) -> usize
     ensures value { result ≡ prefix_len (λ b. not (b == mark)) text.now }
     ensures within { result ≤ length text.now }
@@ -28,7 +30,7 @@ fn length_before(mark: u8, text: &[u8]) -> usize
     text.iter().take_while(|b| **b != mark).count()
 }
 
-/// What stands before the first such mark.
+/// The bytes before the first mark.
 #[tactic(auto, unfolding(crate::specs::Format::before))]
 pub fn before(mark: u8, text: &[u8]) -> &[u8]
     ensures { result.now ≡ before mark text.now }
@@ -36,7 +38,7 @@ pub fn before(mark: u8, text: &[u8]) -> &[u8]
     &text[..length_before(mark, text)]
 }
 
-/// What stands behind the first such mark.
+/// The bytes after the first mark.
 #[tactic(auto, unfolding(crate::specs::Format::behind))]
 pub(crate) fn behind(mark: u8, text: &[u8]) -> &[u8]
     ensures { result.now ≡ behind mark text.now }
@@ -64,6 +66,7 @@ fn number_of(digits: &[u8]) -> Option<u32>
     Some(number)
 }
 
+/// How many decimal digits a field begins with.
 fn digits_len(text: &[u8]) -> usize
     ensures value { result ≡ prefix_len is_ascii_digit text.now }
     ensures within { result ≤ length text.now }
@@ -71,7 +74,7 @@ fn digits_len(text: &[u8]) -> usize
     text.iter().take_while(|b| b.is_ascii_digit()).count()
 }
 
-/// The number that a field is.
+/// The number that a field is, in decimal between blanks.
 #[tactic(auto, unfolding(crate::specs::Format::number_in))]
 pub fn number_in(field: &[u8]) -> Option<u32>
     ensures { result ≡ number_in field.now }

@@ -16,6 +16,7 @@ pub struct Placed<'a> {
     pub section: u32,
 }
 
+/// The first rung with this number, out of all of the project.
 fn rung_with<'a>(mut rungs: &[ClpRung<'a>], number: u32) -> Option<ClpRung<'a>>
     ensures { result ≡ find (λ r. r.number == number) rungs.entry.now }
 {

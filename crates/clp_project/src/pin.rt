@@ -1,4 +1,4 @@
-//! The pins of ClassicLadder.
+//! The pins of ClassicLadder that a HAL file names.
 
 ghost use Rattle.std.specs.Prelude.{◌≡◌};
 ghost use Rattle.clp_project.specs.Hal.{number_behind, pin_of};
@@ -14,7 +14,7 @@ pub enum ClpPin {
     Output(u32),
 }
 
-/// The number behind the first part of a word.
+/// The number after the first part of a word, as in `classicladder.0.in-03`.
 fn number_behind(part: &[u8], word: &[u8]) -> Option<u32>
     ensures { result ≡ number_behind part.now word.now }
 {
@@ -25,7 +25,7 @@ fn number_behind(part: &[u8], word: &[u8]) -> Option<u32>
     }
 }
 
-/// The pin that a word names.
+/// The pin of ClassicLadder that a word of a HAL file names.
 #[tactic(auto, unfolding(crate::specs::Hal::pin_of))]
 pub(crate) fn pin_of(word: &[u8]) -> Option<ClpPin>
     ensures { result ≡ pin_of word.now }

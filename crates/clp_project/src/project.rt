@@ -1,4 +1,4 @@
-//! The project that a text is.
+//! Reads a whole project from its parts.
 
 ghost use Rattle.std.specs.Prelude.{◌≡◌, IfErr, IfOk, map};
 ghost use Rattle.clp_project.specs.Format.{part_of};
@@ -16,7 +16,7 @@ use crate::table::{
 };
 use std::alloc::Global;
 
-/// What a project says, as it stands there: the rungs in the order of the scan, the presets by number, the symbols, and what
+/// What a project says, in its own terms: the rungs in the order of the scan, the presets by number, the symbols, and what
 /// compares and operates compute.
 #[derive(Drop)]
 pub struct Project<'a> {
@@ -44,7 +44,7 @@ fn preset_table(
     }
 }
 
-/// The sections.
+/// The sections of a project, from their part of the file.
 fn section_table(alloc: Global, lines: &[&[u8]]) -> Result<Vec<Section>, ClpFault>
     ensures found { IfOk result (λ v. sections_in (part_of sections_head (map (λ l. l.now) lines.now)) ≡ Some v.items) }
     ensures none { IfErr result (λ e. IsTableFault Sections (sections_in (part_of sections_head (map (λ l. l.now) lines.now))) e) }
@@ -57,7 +57,7 @@ fn section_table(alloc: Global, lines: &[&[u8]]) -> Result<Vec<Section>, ClpFaul
     }
 }
 
-/// The rungs in the order of the scan.
+/// The rungs of a project in the order of the scan.
 fn rungs_of<'a>(
     alloc: Global,
     reading: ReadingOptions,
@@ -71,7 +71,7 @@ fn rungs_of<'a>(
     arranged(alloc, reading, &rungs, &sections)
 }
 
-/// The project of these lines.
+/// The project of the lines of a file.
 fn project_in<'a>(
     alloc: Global,
     reading: ReadingOptions,
@@ -100,7 +100,7 @@ fn project_in<'a>(
     })
 }
 
-/// Reads the project that a text is.
+/// Reads the project of a file.
 ///
 /// # Errors
 ///

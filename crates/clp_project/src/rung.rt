@@ -1,4 +1,4 @@
-//! The rungs of a project.
+//! Reads the rungs of a project, a part of the file each.
 
 ghost use Rattle.std.specs.Prelude.{◌≡◌, IfErr, IfOk, Ok, Err, ℕ, map, option_map, codes};
 ghost use Rattle.clp_project.specs.Rungs.{read_of, rows_in, rung_in, rung_number, rung_with, rungs_in};
@@ -20,7 +20,7 @@ const BLANK: Element = Element {
     number: 0,
 };
 
-/// A rung as it stands in a project.
+/// A rung as a project has it.
 #[derive(Clone, Copy)]
 pub struct ClpRung<'a> {
     pub number: u32,
@@ -73,7 +73,7 @@ fn rung_with<'a>(number: u32, body: &[&'a [u8]], rows: &[Element]) -> Option<Clp
     })
 }
 
-/// The rung that the lines of a part are.
+/// The rung that a part of the file is, from its lines.
 #[tactic(auto, unfolding(crate::specs::Rungs::rung_in))]
 fn rung_in<'a>(
     alloc: Global,
@@ -100,7 +100,7 @@ fn rung_number(line: &[u8]) -> Option<u32>
     }
 }
 
-/// The rungs of all parts that are one.
+/// The rungs of a project, from all parts of the file that are one.
 pub(crate) fn rungs_in<'a>(
     alloc: Global,
     mut lines: &[&'a [u8]],

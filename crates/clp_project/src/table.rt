@@ -1,4 +1,4 @@
-//! The tables of a project: presets, sections and symbols, a line each.
+//! The tables of a project: presets, sections, symbols and expressions, a line each.
 
 ghost use Rattle.std.specs.Prelude.{◌≡◌, IfOk, map, option_map};
 ghost use Rattle.clp_project.specs.Tables.{expression_of, expressions_in, preset_in, presets_in, section_in, sections_in, symbol_of, symbols_in, writes_number};
@@ -28,7 +28,7 @@ pub struct Section {
     pub last: u32,
 }
 
-/// What the project calls a variable, as it stands there.
+/// What the project calls a variable, byte by byte.
 #[derive(Clone, Copy)]
 pub struct ClpSymbol<'a> {
     pub variable: &'a [u8],
@@ -36,13 +36,14 @@ pub struct ClpSymbol<'a> {
     pub comment: &'a [u8],
 }
 
-/// What a compare or an operate computes, as it stands in the project.
+/// What a compare or an operate computes, byte by byte as in the project.
 #[derive(Clone, Copy)]
 pub struct Expression<'a> {
     pub number: Option<u32>,
     pub text: &'a [u8],
 }
 
+/// The preset of a timer or counter on a line: its base, its count and, if the line has a third field, its mode.
 #[tactic(auto, unfolding(crate::specs::Tables::preset_in))]
 fn preset_in(line: &[u8]) -> Option<Preset>
     ensures { result ≡ preset_in line.now }
@@ -79,6 +80,7 @@ pub(crate) fn presets_in(
     Ok(Some(presets))
 }
 
+/// The section on a line: its number, its language, whether it is a subroutine, and its first and last rung.
 #[tactic(auto, unfolding(crate::specs::Tables::section_in))]
 fn section_in(line: &[u8]) -> Option<Section>
     ensures { result ≡ section_in line.now }
@@ -116,7 +118,7 @@ pub(crate) fn sections_in(
     Ok(Some(sections))
 }
 
-/// The symbols, one in each line with data.
+/// The symbols of a table, one in each line with data: a variable, its name and its comment.
 #[tactic(auto, unfolding(crate::specs::Tables::symbol_in))]
 pub(crate) fn symbols_in<'a>(
     alloc: Global,
@@ -139,7 +141,7 @@ pub(crate) fn symbols_in<'a>(
     Ok(symbols)
 }
 
-/// The expressions, one in each line with data.
+/// The expressions of compares and operates, one in each line with data: a number, and what is computed.
 #[tactic(auto, unfolding(crate::specs::Tables::expression_in))]
 pub(crate) fn expressions_in<'a>(
     alloc: Global,

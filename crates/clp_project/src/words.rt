@@ -23,6 +23,7 @@ pub fn joined(alloc: Global, text: &[u8]) -> Result<Vec<u8>, AllocError>
     Ok(all)
 }
 
+/// The parts of a line between blanks, empty ones too; a backslash, which joins lines, counts as a blank.
 fn parts_of(alloc: Global, line: &[u8]) -> Result<Vec<&[u8]>, AllocError>
     ensures { IfOk result (λ v. map (λ l. l.now) v.items ≡ parts_of line.now) }
 {
@@ -30,7 +31,7 @@ fn parts_of(alloc: Global, line: &[u8]) -> Result<Vec<&[u8]>, AllocError>
         .collect(alloc)
 }
 
-/// The parts that aren't empty.
+/// The words out of the parts of a line: those that aren't empty.
 fn some_words<'a>(alloc: Global, mut parts: &[&'a [u8]]) -> Result<Vec<&'a [u8]>, AllocError>
     ensures { IfOk result (λ v. map (λ l. l.now) v.items ≡ some_words (map (λ l. l.now) parts.entry.now)) }
 {

@@ -18,15 +18,15 @@ use crate::text::{token, word_len};
 use crate::time::read_time;
 use crate::words::{address_of, block_of, short_number};
 
-/// What is due in a declaration, with what was read before it.
+/// What is expected next in a declaration, with what was read before it.
 #[derive(Clone, Copy)]
 enum Due {
-    /// `AT` or a colon, behind the name.
+    /// `AT` or a colon, after the name.
     Place,
     Address,
-    /// The colon behind an address.
+    /// The colon after an address.
     Colon(VarKind, Address),
-    /// The type behind an address.
+    /// The type after an address.
     Bool(VarKind, Address),
     /// The type, where there is no address.
     Type,
@@ -41,18 +41,18 @@ enum Due {
     Assign(BlockKind, Parameter),
     Value(BlockKind, Parameter),
     Closing(Body),
-    /// The `;` behind a value.
+    /// The `;` after a value.
     End(Body),
 }
 
-/// What a token leads to: more is due, or the declaration ends.
+/// What a token leads to: more is expected, or the declaration ends.
 #[derive(Clone, Copy)]
 enum Next {
     Goes(Due),
     Ends(Body),
 }
 
-/// What follows a keyword or a mark that is due.
+/// The text after a keyword or mark that is expected next.
 #[tactic(auto, unfolding(crate::specs::ReadDecls::expect))]
 pub(crate) fn expect<'a>(word: &[u8], text: &'a [u8]) -> Result<&'a [u8], Fault>
     ensures value { Gives (λ rest. rest.now) result (expect word.now text.now) }
@@ -100,7 +100,7 @@ fn value_of(form: Parameter, word: &[u8]) -> Option<u32>
     }
 }
 
-/// What a word leads to behind a variable's place; None where it is not due.
+/// What the reading of a variable goes on with after this word; None where the word isn't expected.
 fn var_step(kind: VarKind, address: Option<Address>, word: &[u8]) -> Option<Next>
     ensures { result ≡ step (Due.Initial kind address) word.now }
 {
@@ -117,7 +117,7 @@ fn var_step(kind: VarKind, address: Option<Address>, word: &[u8]) -> Option<Next
     }
 }
 
-/// What a word leads to behind the type of an instance; None where it is not due.
+/// What the reading of an instance goes on with after this word; None where the word isn't expected.
 fn instance_step(kind: BlockKind, word: &[u8]) -> Option<Next>
     ensures { result ≡ step (Due.Preset kind) word.now }
 {
@@ -131,7 +131,7 @@ fn instance_step(kind: BlockKind, word: &[u8]) -> Option<Next>
     }
 }
 
-/// More is due where a word is the one that was due.
+/// What is expected next, if the word is the one that was expected.
 fn on(word: &[u8], due: &[u8], next: Due) -> Option<Next>
     ensures { result ≡ (if same_letters word.now due.now then Some (Next.Goes next) else None) }
 {
@@ -142,7 +142,7 @@ fn on(word: &[u8], due: &[u8], next: Due) -> Option<Next>
     }
 }
 
-/// What a word leads to where it is due; None where it is not.
+/// What the reading of a declaration goes on with after this word; None where the word isn't expected.
 fn step(due: Due, word: &[u8]) -> Option<Next>
     ensures { result ≡ step due word.now }
 {
@@ -183,7 +183,7 @@ fn step(due: Due, word: &[u8]) -> Option<Next>
     }
 }
 
-/// The rule that a word breaks which is not due: where a value is due, a word is no preset, and a mark is no word.
+/// The rule that a word breaks which isn't expected: where a value is expected, the word is no preset, and a mark is no word.
 fn misfit(due: Due, word: &[u8]) -> VarRule
     ensures { result ≡ misfit due word.now }
 {

@@ -1,4 +1,4 @@
-//! The declarations of a text.
+//! The declarations of a text: variables and instances, and what one more may be.
 
 ghost use Rattle.std.specs.Prelude.{◌≡◌, ◌≤◌, ◌<◌, ◌||◌, length, OnOk, IfErr, IfSome, IfNone, position, count_by};
 ghost use Rattle.std.specs.List.{list_any, prefix_len};
@@ -115,31 +115,35 @@ impl Model for Decls {
         × (d.leading ≡ prefix_len is_input d.vars.items) };
 }
 
+/// The number of the first variable with this name, whatever the letter case.
 fn var_at(vars: &[Var], name: &Name) -> Option<usize>
     ensures { result ≡ position (λ v. same_letters name.now v.name) vars.now }
 {
     vars.iter().position(|v| name.same(&v.name))
 }
 
+/// The number of the first instance with this name, whatever the letter case.
 fn instance_at(instances: &[Instance], name: &Name) -> Option<usize>
     ensures { result ≡ position (λ i. same_letters name.now i.name) instances.now }
 {
     instances.iter().position(|i| name.same(&i.name))
 }
 
+/// Whether a variable already has this name, whatever the letter case.
 fn is_var_named(vars: &[Var], name: &Name) -> bool
     ensures { result ≡ list_any (λ v. same_letters name.now v.name) vars.now }
 {
     vars.iter().any(|v| name.same(&v.name))
 }
 
+/// Whether an instance already has this name, whatever the letter case.
 fn is_instance_named(instances: &[Instance], name: &Name) -> bool
     ensures { result ≡ list_any (λ i. same_letters name.now i.name) instances.now }
 {
     instances.iter().any(|i| name.same(&i.name))
 }
 
-/// Whether a variable has the address.
+/// Whether a variable already has the address.
 fn is_used(vars: &[Var], address: Address) -> bool
     ensures { result ≡ list_any (same_address address) (addresses_of vars.now) }
 {
@@ -148,6 +152,7 @@ fn is_used(vars: &[Var], address: Address) -> bool
         .any(|other| address == other)
 }
 
+/// Whether an earlier variable has this address. A declaration without an address takes none.
 fn is_taken(vars: &[Var], address: Option<Address>) -> bool
     ensures { result ≡ is_taken vars.now address }
 {
@@ -157,7 +162,7 @@ fn is_taken(vars: &[Var], address: Option<Address>) -> bool
     }
 }
 
-/// The title that is the name.
+/// The title of a declaration without an alias, which is its name.
 #[tactic(auto, using(crate::proofs::TitleLaws::name_is_title))]
 fn title_of(name: &Name) -> Title
     ensures { result ≡ name.now }
@@ -165,18 +170,21 @@ fn title_of(name: &Name) -> Title
     Title::spelled(name.bytes())
 }
 
+/// Whether a word spells the name or the title of a declaration, whatever the letter case.
 fn is_either(word: &[u8], name: &Name, title: &Title) -> bool
     ensures { result ≡ (same_letters word.now name.now || same_letters word.now title.now) }
 {
     same_letters(word, name.bytes()) || same_letters(word, title.bytes())
 }
 
+/// Whether the name or the title of a variable is this word.
 fn is_var_called(vars: &[Var], word: &[u8]) -> bool
     ensures { result ≡ list_any (λ v. same_letters word.now v.name || same_letters word.now v.title) vars.now }
 {
     vars.iter().any(|v| is_either(word, &v.name, &v.title))
 }
 
+/// Whether the name or the title of an instance is this word.
 fn is_instance_called(instances: &[Instance], word: &[u8]) -> bool
     ensures { result ≡ list_any (λ i. same_letters word.now i.name || same_letters word.now i.title) instances.now }
 {
@@ -184,6 +192,7 @@ fn is_instance_called(instances: &[Instance], word: &[u8]) -> bool
 }
 
 impl Decls {
+    /// Declarations of which none is read yet.
     pub(crate) fn new(alloc: Global) -> Decls
         ensures { result ≡ nothing }
     {
@@ -194,6 +203,7 @@ impl Decls {
         }
     }
 
+    /// Whether a variable or an instance has this name.
     #[tactic(auto, using(crate::proofs::Keeping::names_any))]
     fn is_declared(&self, name: &Name) -> bool
         ensures { result ≡ list_any (same_letters name.now) (names_of self.now) }
@@ -201,7 +211,7 @@ impl Decls {
         is_var_named(&self.vars, name) || is_instance_named(&self.instances, name)
     }
 
-    /// The rule that one more declaration would break.
+    /// The rule that one more declaration would break: names and addresses are declared once, and their number is limited.
     fn refusal(&self, name: &Name, body: Body) -> Option<VarRule>
         ensures some { IfSome result (λ rule. IsRefused rule self.now name.now body) }
         ensures none { IfNone result (PresetFits body → AreInRange (with_decl self.now name.now body)) }
@@ -232,6 +242,8 @@ impl Decls {
         }
     }
 
+    /// Adds a variable as the last one. An input that only inputs precede counts as a leading one, which a scan gives its value by
+    /// one copy.
     fn push_var(&mut self, var: Var) -> Result<(), AllocError>
         requires { AreInRange (with_var self.old var) }
         ensures { OnOk result (self.new ≡ with_var self.old var) }
@@ -245,6 +257,7 @@ impl Decls {
         Ok(())
     }
 
+    /// Adds an instance of a function block as the last one.
     fn push_instance(&mut self, instance: Instance) -> Result<(), AllocError>
         requires { AreInRange (with_instance self.old instance) }
         ensures { OnOk result (self.new ≡ with_instance self.old instance) }
@@ -253,6 +266,7 @@ impl Decls {
         Ok(())
     }
 
+    /// Adds a declaration as it was read; its title is its name until aliases are taken.
     fn push(&mut self, name: Name, body: Body) -> Result<(), AllocError>
         requires { AreInRange (with_decl self.old name body) }
         ensures { OnOk result (self.new ≡ with_decl self.old name body) }
@@ -278,7 +292,8 @@ impl Decls {
         }
     }
 
-    /// Takes one more declaration, where so many bytes are left after its name.
+    /// Adds a declaration that was read, unless it breaks a rule; `left` bytes of the text are after its name, by which a fault
+    /// finds its line.
     pub(crate) fn add(&mut self, name: Name, body: Body, left: usize) -> Result<(), Stopped>
         requires { PresetFits body }
         ensures more { OnOk result (self.new ≡ with_decl self.old name body) }
@@ -306,7 +321,7 @@ impl Decls {
         self.instances.as_slice()
     }
 
-    /// How many variables are inputs.
+    /// How many of the variables are inputs.
     pub fn inputs(&self) -> usize
         ensures { result ≡ count_by is_input self.now.vars }
     {
@@ -350,7 +365,7 @@ impl Decls {
         }
     }
 
-    /// The title of a variable or an instance.
+    /// The title of a variable or an instance, as lists and traces print it.
     pub fn symbol_name(&self, symbol: Symbol) -> &[u8]
         ensures { result.now ≡ symbol_name self.now symbol }
     {
@@ -360,7 +375,7 @@ impl Decls {
         }
     }
 
-    /// What stands after the title of an instance, for its output: `.Q` or `.Q1`.
+    /// What is written after the title of an instance, for its output: `.Q` or `.Q1`.
     pub fn output_suffix(&self, inst: usize) -> &'static [u8]
         ensures { result.now ≡ output_suffix self.now inst }
     {
@@ -380,6 +395,7 @@ impl Decls {
         is_var_called(&self.vars, word) || is_instance_called(&self.instances, word)
     }
 
+    /// Gives a variable the title by which lists and traces call it.
     pub(crate) fn set_var_title(&mut self, number: usize, title: Title)
         requires { number < length self.old.vars }
         ensures { SetsVar number title self.old self.new }
@@ -387,6 +403,7 @@ impl Decls {
         self.vars[number].title = title;
     }
 
+    /// Gives an instance the title by which lists and traces call it.
     pub(crate) fn set_instance_title(&mut self, number: usize, title: Title)
         requires { number < length self.old.instances }
         ensures { SetsInstance number title self.old self.new }

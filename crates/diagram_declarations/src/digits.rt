@@ -1,4 +1,4 @@
-//! Numbers in decimal.
+//! Numbers in decimal, capped where they are too large for any use.
 
 ghost use Rattle.std.specs.Prelude.{◌≡◌, ◌^◌, ◌≤◌, ◌+◌, ◌-◌, ◌*◌, min, length};
 ghost use Rattle.std.specs.List.{prefix_len};
@@ -8,6 +8,7 @@ ghost use Rattle.diagram_declarations.specs.Duration.{number_of};
 /// Larger than any number of a declaration.
 pub(crate) const CAP: u64 = 1 << 32;
 
+/// A number with one more decimal digit, at most `CAP`: no number that large is in the range of anything that is read.
 fn with_digit(n: u64, digit: u8) -> u64
     requires { n ≤ 2 ^ 32 }
     ensures { result ≡ min (n * 10 + (digit - 48)) (2 ^ 32) }
@@ -26,7 +27,7 @@ pub fn number(digits: &[u8]) -> u64
     n
 }
 
-/// How many digits there are at the start.
+/// How many decimal digits a text begins with.
 pub fn digits_len(text: &[u8]) -> usize
     ensures value { result ≡ prefix_len is_ascii_digit text.now }
     ensures within { result ≤ length text.now }

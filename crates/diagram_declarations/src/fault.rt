@@ -63,6 +63,7 @@ pub(crate) enum Stopped {
 impl From<AllocError> for Stopped {
     ghost from_gives = { λ _ e. e ≡ NoMemory };
 
+    /// Reading needed memory that there isn't.
     fn from(_error: AllocError) -> Stopped {
         Stopped::NoMemory
     }
@@ -71,6 +72,7 @@ impl From<AllocError> for Stopped {
 impl<T: Drop> From<AllocFailed<T>> for Stopped {
     ghost from_gives = { λ _ e. e ≡ NoMemory };
 
+    /// The same, where the value that found no room is handed back; it is dropped.
     fn from(_error: AllocFailed<T>) -> Stopped {
         Stopped::NoMemory
     }
@@ -79,6 +81,7 @@ impl<T: Drop> From<AllocFailed<T>> for Stopped {
 impl From<Fault> for Stopped {
     ghost from_gives = { λ f e. e ≡ Broken f };
 
+    /// The text breaks a rule.
     fn from(fault: Fault) -> Stopped {
         Stopped::Broken(fault)
     }

@@ -68,7 +68,7 @@ pub struct BlockTraits {
     pub output: Output,
 }
 
-/// One line of the table.
+/// One line of the table: the traits of a kind of function blocks.
 fn row(
     word: &'static [u8],
     parameter: Option<Parameter>,
@@ -154,7 +154,7 @@ impl BlockKind {
 }
 
 impl Parameter {
-    /// The name of the parameter.
+    /// The word for a parameter of a block: PT or PV.
     pub(crate) fn word(self) -> &'static [u8]
         ensures { result.now ≡ parameter_word self }
     {

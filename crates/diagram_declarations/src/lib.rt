@@ -1,4 +1,7 @@
 //! The declarations at the head of a ladder diagram: names and their aliases, durations, variables and function blocks.
+//!
+//! A program text begins with one block `VAR .. END_VAR` of IEC 61131-3. This crate says what the block declares, and refuses a text
+//! whose block breaks one of the rules V1 to V8. The module `limits` is public for the drafts of imported projects.
 #![tactic(auto)]
 
 mod declaration;

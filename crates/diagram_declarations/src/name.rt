@@ -1,4 +1,4 @@
-//! Names.
+//! Names of variables and instances: their form, and when two are the same.
 
 ghost use Rattle.std.specs.Prelude.{◌≡◌, true, false, IfSome, IfNone};
 ghost use Rattle.std.specs.List.{list_all, list_any};
@@ -14,18 +14,21 @@ const KEYWORDS: [&[u8]; 14] = [
     b"SR", b"RS", b"RETURN",
 ];
 
+/// Whether a word is one of several, whatever the letter case.
 fn is_one_of(words: &[&[u8]], word: &[u8]) -> bool
     ensures { result ≡ list_any (λ w. same_letters word.now w.now) words.now }
 {
     words.iter().any(|w| same_letters(word, w))
 }
 
+/// Whether a word is reserved by IEC 61131-3, so that it can't be a name.
 fn is_keyword(word: &[u8]) -> bool
     ensures { result ≡ list_any (λ w. same_letters word.now w) keywords }
 {
     is_one_of(&KEYWORDS, word)
 }
 
+/// Whether all bytes may be part of a name: ASCII letters, digits and `_`.
 fn are_name_bytes(bytes: &[u8]) -> bool
     ensures { result ≡ list_all is_name_byte bytes.now }
 {
@@ -73,7 +76,7 @@ impl Model for Name {
 }
 
 impl Name {
-    /// The name that is spelled so, where there is one.
+    /// The name of this spelling, where it has the form of a name and isn't reserved.
     pub fn new(spelling: &[u8]) -> Option<Name>
         ensures some { IfSome result (λ name. (name ≡ spelling.now) × (is_name spelling.now ≡ true)) }
         ensures none { IfNone result (is_name spelling.now ≡ false) }

@@ -15,7 +15,7 @@ use crate::name::{Name, has_name_form};
 use crate::text::token;
 use std::alloc::Global;
 
-/// The name that a word is, where a name is due and so many bytes are left after it.
+/// The name that a word is, where a name is expected; `left` bytes of the text are after it.
 fn name_of(word: &[u8], left: usize) -> Result<Name, Fault>
     ensures some { IfOk result (λ name. (name ≡ word.now) × (is_name word.now ≡ true)) }
     ensures none { IfErr result (λ f. (is_name word.now ≡ false) × (f.rule ≡ (if has_name_form word.now then VarRule.BadName else VarRule.BadToken)) × (f.left ≡ left)) }
@@ -53,7 +53,7 @@ fn all_of(alloc: Global, text: &[u8]) -> Result<(Decls, &[u8]), Stopped>
     }
 }
 
-/// The line where so many bytes of a text are left, counted from 1.
+/// The number of the line, counted from 1, with the place after which `left` bytes of the text are left.
 pub(crate) fn line_of(text: &[u8], left: usize) -> usize
     ensures { result ≡ line_of text.now left }
 {

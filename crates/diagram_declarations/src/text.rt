@@ -8,7 +8,7 @@ ghost use Rattle.diagram_declarations.specs.ReadText.{skip_from, token_at, Gives
 
 use crate::fault::{Fault, VarRule};
 
-/// Where in a gap between two tokens a byte stands.
+/// What a byte in a gap between two tokens belongs to: blanks or a comment.
 #[derive(Clone, Copy)]
 enum Within {
     Blanks,
@@ -64,7 +64,7 @@ fn skip(text: &[u8]) -> Result<&[u8], Fault>
     }
 }
 
-/// How many bytes of a word are at the start.
+/// How many bytes at the start of a text are those of one word: letters, digits, `_`, `#` and points.
 pub(crate) fn word_len(text: &[u8]) -> usize
     ensures value { result ≡ prefix_len is_word_byte text.now }
     ensures within { result ≤ length text.now }
@@ -74,6 +74,7 @@ pub(crate) fn word_len(text: &[u8]) -> usize
         .count()
 }
 
+/// How many bytes at the start of a text can be those of an address after its `%`: letters, digits and points.
 fn address_len(text: &[u8]) -> usize
     ensures value { result ≡ prefix_len (λ c. is_ascii_alphanumeric c || c == 46) text.now }
     ensures within { result ≤ length text.now }

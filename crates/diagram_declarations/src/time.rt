@@ -25,6 +25,7 @@ pub(crate) enum Unit {
 }
 
 impl Unit {
+    /// How many milliseconds one unit has.
     fn millis(self) -> u64
         ensures { result ≡ millis_of self }
     {
@@ -50,6 +51,7 @@ impl Unit {
     }
 }
 
+/// The unit that the letters of a part stand for, whatever their case.
 fn unit_of(letters: &[u8]) -> Option<Unit>
     ensures { result ≡ lookup (str_eq_ignore_ascii_case letters.now) units }
 {
@@ -68,6 +70,7 @@ fn unit_of(letters: &[u8]) -> Option<Unit>
     }
 }
 
+/// How many letters a text begins with.
 fn letters_len(text: &[u8]) -> usize
     ensures value { result ≡ prefix_len is_ascii_alphabetic text.now }
     ensures within { result ≤ length text.now }
@@ -75,6 +78,7 @@ fn letters_len(text: &[u8]) -> usize
     text.iter().take_while(|b| b.is_ascii_alphabetic()).count()
 }
 
+/// The part of a duration that a text begins with: its number, capped at 2^32, its unit, and the text after it.
 #[tactic(auto, unfolding(crate::specs::ReadTimes::part_at))]
 fn part_at(text: &[u8]) -> Option<(u64, Unit, &[u8])>
     ensures value { Gives (λ p. record { number = p.0; unit = p.1; rest = p.2.now }) result (part_at text.now) }
@@ -150,6 +154,7 @@ fn after_word<'a>(word: &[u8], text: &'a [u8]) -> Option<&'a [u8]>
     }
 }
 
+/// What follows `T#` or `TIME#` at the start of a duration literal.
 fn after_prefix(text: &[u8]) -> Option<&[u8]>
     ensures { Gives (λ rest. rest.now) result (after_prefix text.now) }
 {

@@ -9,7 +9,7 @@ use std::marker::Model;
 /// The characters of the longest title.
 pub const LONGEST_TITLE: usize = 32;
 
-/// How many bytes of a title are at the start.
+/// How many bytes at the start of a text can be those of a title.
 fn title_len(text: &[u8]) -> usize
     ensures value { result ≡ prefix_len is_title_byte text.now }
     ensures within { result ≤ length text.now }
@@ -45,7 +45,7 @@ impl Model for Title {
 }
 
 impl Title {
-    /// The title that is spelled so, where there is one.
+    /// The title of this spelling, where it has the form of a title.
     #[tactic(auto, using(crate::proofs::TitleRuns::whole_run))]
     pub fn new(spelling: &[u8]) -> Option<Title>
         ensures some { IfSome result (λ title. (title ≡ spelling.now) × (is_title spelling.now ≡ true)) }
@@ -61,7 +61,7 @@ impl Title {
         }
     }
 
-    /// The title that is spelled so.
+    /// The title of this spelling, which is known to have the form of one.
     pub fn spelled(spelling: &[u8]) -> Title
         requires { is_title spelling.now ≡ true }
         ensures { result ≡ spelling.now }
@@ -83,6 +83,7 @@ impl Title {
     }
 }
 
+/// How many spaces and tabulators a text begins with.
 fn space_len(text: &[u8]) -> usize
     ensures value { result ≡ prefix_len is_space text.now }
     ensures within { result ≤ length text.now }
@@ -92,14 +93,14 @@ fn space_len(text: &[u8]) -> usize
         .count()
 }
 
-/// The text behind the spaces and tabs at its start.
+/// The text after the spaces and tabs at its start.
 fn after_spaces(text: &[u8]) -> &[u8]
     ensures { result.now ≡ after_spaces text.now }
 {
     &text[space_len(text)..]
 }
 
-/// The alias that the text behind a name begins with, in a comment that holds nothing else.
+/// The alias that the text after a name begins with, in a comment that holds nothing else.
 fn alias_behind(text: &[u8]) -> Option<Title>
     ensures { result ≡ alias_behind text.now }
 {
@@ -114,7 +115,7 @@ fn alias_behind(text: &[u8]) -> Option<Title>
     }
 }
 
-/// The alias of a name, in the text behind it: another word than the name.
+/// The alias of a name, in the text after it: another word than the name.
 pub fn alias_of(name: &[u8], text: &[u8]) -> Option<Title>
     ensures { result ≡ alias_of name.now text.now }
 {

@@ -1,4 +1,4 @@
-//! Takes the aliases of a text: lists and traces call a declaration by the alias behind its name.
+//! Takes the aliases of a text: lists and traces call a declaration by the alias after its name.
 
 ghost use Rattle.std.specs.Prelude.{◌≡◌, ◌<◌, ◌^◌, length, IfOk, IfErr, IfSome, IfNone};
 ghost use Rattle.diagram_declarations.specs.Titles.{plain, AreTitled, Declares, HasTakenAlias};
@@ -19,7 +19,7 @@ pub struct TitleFault {
     pub line: usize,
 }
 
-/// A declaration that is read: its name, what stands behind the name, and what follows the declaration.
+/// A declaration that is read: its name, what is written after the name, and what follows the declaration.
 #[derive(Clone, Copy)]
 struct TitledDeclaration<'a> {
     name: &'a [u8],
@@ -59,6 +59,7 @@ fn next_decl(text: &[u8]) -> Option<TitledDeclaration<'_>>
 }
 
 impl Passed {
+    /// The counts after one more declaration, so that the next one finds its number.
     fn past(self, body: Body) -> Passed
         requires { (self.vars < 2 ^ 32) × (self.instances < 2 ^ 32) }
         ensures { IsPast self body result }
@@ -75,7 +76,7 @@ impl Passed {
         }
     }
 
-    /// Gives the declaration that comes next the title.
+    /// Gives the title to the declaration with the next number.
     fn give(self, decls: &mut Decls, body: Body, title: Title)
         requires { IsWithin self.vars self.instances body decls.old }
         ensures { Retitles self.vars self.instances body title decls.old decls.new }

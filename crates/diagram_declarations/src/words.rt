@@ -21,13 +21,14 @@ pub(crate) fn block_of(word: &[u8]) -> Option<BlockKind>
         .find(|kind| same_letters(word, kind.traits().word))
 }
 
+/// Whether a word has decimal digits alone.
 fn are_digits(word: &[u8]) -> bool
     ensures { result ≡ list_all is_ascii_digit word.now }
 {
     word.iter().all(|b| b.is_ascii_digit())
 }
 
-/// The number of a word of 1 to 5 digits.
+/// The number of a word of 1 to 5 digits; a longer word is none.
 #[tactic(auto, using(crate::proofs::WordLaws::number_of_short))]
 pub(crate) fn short_number(word: &[u8]) -> Option<u32>
     ensures { result ≡ short_number word.now }
@@ -39,7 +40,7 @@ pub(crate) fn short_number(word: &[u8]) -> Option<u32>
     }
 }
 
-/// A number, and a second one behind a point where there is a point.
+/// A number, and a second one after a point where there is a point.
 #[tactic(auto, unfolding(crate::specs::ReadWords::numbers_of))]
 fn numbers_of(text: &[u8]) -> Option<(u32, Option<u32>)>
     ensures { result ≡ numbers_of text.now }

@@ -1,7 +1,7 @@
 -- What the reader makes of a text is what the pieces of the text say, whatever list of pieces it is.
 use Rattle.std.proofs.Common.{◌≡◌, ℕ, ◌⊎◌, inl, inr, Bool, true, false, not, cond, if◌then◌else◌, ◌&&◌, ◌||◌, ◌==◌, List, [], ◌∷◌, ◌++◌, map, flat_map, refl, sym, ap, ◌∙◌, append_assoc, append-nil}
 use Rattle.std.specs.List.{list_all, slice_split}
-use Rattle.std.proofs.lemmas.Bool.{eqb-true, and_parts, not-true, false≢true}
+use Rattle.std.proofs.lemmas.Bool.{eqb-true, and_parts, not-true, false≢true, or_parts}
 use Rattle.std.proofs.lemmas.List.{map-append}
 use Rattle.diagram_declarations.specs.Text.{begins_with, closes}
 use Rattle.diagram_program.specs.Bytes.{space, line_feed, plus, bar, is_upright}
@@ -18,10 +18,6 @@ as_spaces bytes = map (λ b. if b == line_feed then line_feed else space) bytes
 abbrev pub inside_at : Bool → Inside
 inside_at true = inside.LineStart
 inside_at false = inside.Plain
-
-pub or_false : (x y : Bool) → (x || y) ≡ false → (x ≡ false) × (y ≡ false)
-or_false true y h = absurd cc
-or_false false y h = (refl, h)
 
 pub front_stays : (byte other : ℕ) (bytes rest : List ℕ) → (other == byte) ≡ false → begins_with byte (bytes ++ (other ∷ rest)) ≡ begins_with byte bytes
 front_stays byte other [] rest h = h
@@ -56,7 +52,7 @@ rung_start b h =
 -- a byte of a gap line, outside comments
 pub plain_next : (start : Bool) (b : ℕ) (after : List ℕ) → MayStand start (Plain b) after → next_inside (inside_at start) b after ≡ inside_at (b == line_feed)
 plain_next start b after h =
-    let both = or_false (b == 40 && begins_with 42 after) (b == 47 && begins_with 47 after) h.1 in
+    let both = or_parts (b == 40 && begins_with 42 after) (b == 47 && begins_with 47 after) h.1 in
     let plain : after_plain b after ≡ inside_at (b == line_feed)
     = elim (b == line_feed) as (λ t. cond t inside.LineStart (cond (b == 40 && begins_with 42 after) inside.Opening (cond (b == 47 && begins_with 47 after) inside.LineComment inside.Plain)) ≡ inside_at t) [
       | true ↦ refl
@@ -81,14 +77,14 @@ comment_shown : (bytes after : List ℕ) → closes bytes ≡ false
     → blanked_from inside.Block ((bytes ++ (42 ∷ 41 ∷ [])) ++ after) ≡ as_spaces bytes ++ (space ∷ space ∷ blanked_from inside.Plain after)
 comment_shown [] after h = refl
 comment_shown (b ∷ bs) after h =
-    let parts = or_false (b == 42 && begins_with 41 bs) (closes bs) h in
+    let parts = or_parts (b == 42 && begins_with 41 bs) (closes bs) h in
     rw (goes_on b bs after parts.0, either (b == 13 && begins_with line_feed ((bs ++ (42 ∷ 41 ∷ [])) ++ after)) space)
     (ap (λ z. cond (b == line_feed) line_feed space ∷ z) (comment_shown bs after parts.1))
 
 open_comment_shown : (bytes : List ℕ) → closes bytes ≡ false → blanked_from inside.Block bytes ≡ as_spaces bytes
 open_comment_shown [] h = refl
 open_comment_shown (b ∷ bs) h =
-    let parts = or_false (b == 42 && begins_with 41 bs) (closes bs) h in
+    let parts = or_parts (b == 42 && begins_with 41 bs) (closes bs) h in
     rw (parts.0, either (b == 13 && begins_with line_feed bs) space) (ap (λ z. cond (b == line_feed) line_feed space ∷ z) (open_comment_shown bs parts.1))
 
 -- behind the rest of a line it makes no difference what the line was

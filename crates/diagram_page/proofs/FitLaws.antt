@@ -6,31 +6,23 @@ use Rattle.std.proofs.lemmas.Bool.{ltb-true}
 use Rattle.diagram_declarations.specs.Decls.{Declared, find}
 use Rattle.diagram_declarations.specs.Name.{is_name, same_letters}
 use Rattle.std.specs.Prelude.{option_map}
+use Rattle.std.proofs.lemmas.Option.{none-some, same_Some}
 use Rattle.diagram_declarations.specs.declared.kind.BlockKind.{BlockKind}
 use Rattle.diagram_declarations.specs.declared.decls.Symbol.{Symbol}
 use Rattle.diagram_declarations.specs.declared.decls.Symbol.TheVariants.{Var, Instance}
 use Rattle.diagram_page.specs.declared.form.Form.{Form}
-use Rattle.diagram_page.specs.declared.form.Form.TheVariants.{Empty, Wire, Contact, Coil, Block, Lower, Jump, Return}
+use Rattle.diagram_page.specs.declared.form.Form.TheVariants.{Block}
 use Rattle.diagram_declarations.specs.declared.kind.Output.{Output}
 use Rattle.diagram_declarations.specs.declared.kind.Output.TheVariants as output
 use Rattle.diagram_page.specs.declared.operand.Reference.{Reference}
 use Rattle.diagram_page.specs.Operand.{reference, refer_to, ends_in, instance_on}
 
-none_some : {A : Type 0} {x : A} → None ≡ Some x → ⊥
-none_some h = cc
-
-some_symbol : (a b : Symbol) → Some a ≡ Some b → a ≡ b
-some_symbol a b h = cc
-
-some_number : (a b : ℕ) → Some a ≡ Some b → a ≡ b
-some_number a b h = cc
-
 pub position_below : {A : Type 0} (p : A → Bool) (xs : List A) (j : ℕ) → position p xs ≡ Some j → j < length xs
 position_below p xs j h =
     elim (nat_lt (position_or_len p xs) (length xs)) as (λ b. nat_lt (position_or_len p xs) (length xs) ≡ b
     → cond b (Some (position_or_len p xs)) None ≡ Some j → j < length xs) [
-      | true ↦ λ test same. subst (λ i. i < length xs) (some_number (position_or_len p xs) j same) (ltb-true (position_or_len p xs) (length xs) test)
-      | false ↦ λ test none. absurd (none_some none)
+      | true ↦ λ test same. subst (λ i. i < length xs) (same_Some (position_or_len p xs) j same) (ltb-true (position_or_len p xs) (length xs) test)
+      | false ↦ λ test none. absurd (none-some _ none)
     ] refl h
 
 abbrev pub SymbolFits : Declared → Symbol → Type 0
@@ -39,9 +31,9 @@ SymbolFits decls (Instance i) = i < length decls.instances
 
 either_fits : (decls : Declared) (a b : Option ℕ) → ((i : ℕ) → a ≡ Some i → i < length decls.vars) → ((i : ℕ) → b ≡ Some i → i < length decls.instances)
     → (s : Symbol) → option_or (option_map Var a) (option_map Instance b) ≡ Some s → SymbolFits decls s
-either_fits decls (Some i) b vars instances s h = subst (SymbolFits decls) (some_symbol (Var i) s h) (vars i refl)
-either_fits decls None (Some i) vars instances s h = subst (SymbolFits decls) (some_symbol (Instance i) s h) (instances i refl)
-either_fits decls None None vars instances s h = absurd (none_some h)
+either_fits decls (Some i) b vars instances s h = subst (SymbolFits decls) (same_Some (Var i) s h) (vars i refl)
+either_fits decls None (Some i) vars instances s h = subst (SymbolFits decls) (same_Some (Instance i) s h) (instances i refl)
+either_fits decls None None vars instances s h = absurd (none-some _ h)
 
 ref_symbol : Option Reference → Option Symbol
 ref_symbol None = None
@@ -56,14 +48,14 @@ found_fits decls word s found =
 symbol_fits : (decls : Declared) (o : Option Output) (m : Option Symbol) (x : Reference) → ((s : Symbol) → m ≡ Some s → SymbolFits decls s)
     → option_map (λ s. record { symbol = s; output = o }) m ≡ Some x → SymbolFits decls x.symbol
 unfolding ref_symbol
-symbol_fits decls o None x fits h = absurd (none_some h)
+symbol_fits decls o None x fits h = absurd (none-some _ h)
 symbol_fits decls o (Some s) x fits h = fits x.symbol (ap ref_symbol h)
 
 reference_fits : (decls : Declared) (o : Option Output) (word : List ℕ) (x : Reference) → reference decls o word ≡ Some x → SymbolFits decls x.symbol
 reference_fits decls o word x h =
     elim (is_name word) as (λ t. option_map (λ s. record { symbol = s; output = o }) (cond t (find decls word) None) ≡ Some x → SymbolFits decls x.symbol) [
       | true ↦ λ found. symbol_fits decls o (find decls word) x (λ s e. found_fits decls word s e) found
-      | false ↦ λ none. absurd (none_some none)
+      | false ↦ λ none. absurd (none-some _ none)
     ] h
 
 chosen : {F : Type 0} (b : Bool) (p q : Option Reference) (x : Reference) → (p ≡ Some x → F) → (q ≡ Some x → F) → cond b p q ≡ Some x → F
@@ -83,18 +75,10 @@ refer_fits decls word x h =
 
 instance_symbol : (decls : Declared) (kind : BlockKind) (s : Symbol) (n : ℕ) → SymbolFits decls s → instance_on (Some (Block kind)) (Some s) ≡ Some n
     → n < length decls.instances
-instance_symbol decls kind (Var i) n fits h = absurd (none_some h)
-instance_symbol decls kind (Instance i) n fits h = subst (λ m. m < length decls.instances) (some_number i n h) fits
+instance_symbol decls kind (Var i) n fits h = absurd (none-some _ h)
+instance_symbol decls kind (Instance i) n fits h = subst (λ m. m < length decls.instances) (same_Some i n h) fits
 
 pub instance_fits : (decls : Declared) (form : Option Form) (name : Option Reference) (n : ℕ) → ((x : Reference) → name ≡ Some x → SymbolFits decls x.symbol)
     → instance_on form (option_map (λ (x : Reference). x.symbol) name) ≡ Some n → n < length decls.instances
-instance_fits decls None name n fits h = absurd (none_some h)
-instance_fits decls (Some Empty) name n fits h = absurd (none_some h)
-instance_fits decls (Some Wire) name n fits h = absurd (none_some h)
-instance_fits decls (Some (Contact m)) name n fits h = absurd (none_some h)
-instance_fits decls (Some (Coil m)) name n fits h = absurd (none_some h)
-instance_fits decls (Some (Block kind)) None n fits h = absurd (none_some h)
 instance_fits decls (Some (Block kind)) (Some x) n fits h = instance_symbol decls kind x.symbol n (fits x refl) h
-instance_fits decls (Some (Lower pin linked)) name n fits h = absurd (none_some h)
-instance_fits decls (Some (Jump label)) name n fits h = absurd (none_some h)
-instance_fits decls (Some Return) name n fits h = absurd (none_some h)
+instance_fits decls _ _ n fits h = absurd (none-some _ h)

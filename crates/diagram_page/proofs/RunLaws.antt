@@ -1,12 +1,11 @@
 -- A run of bytes that stand in the same and are shown in one way is passed over at once.
 use Rattle.std.proofs.Common.{◌≡◌, ℕ, ◌+◌, ◌-◌, ◌≤◌, ◌⊎◌, inl, inr, Bool, true, false, cond, ◌||◌, ◌==◌, one-add, List, [], ◌∷◌, ◌++◌, length, replicate, take, drop, get_or, Option, Some, None, refl, sym, ap, ◌∙◌, append_assoc, take_all, arith}
 use Rattle.std.specs.List.{prefix_len}
-use Rattle.std.proofs.lemmas.Bool.{not-true, false≢true}
+use Rattle.std.proofs.lemmas.Bool.{not-true, false≢true, or_parts}
 use Rattle.diagram_program.specs.Bytes.{space, line_feed}
 use Rattle.diagram_page.specs.ReadLines.{is_shown, is_settled, shown_run, blanked_from, unclosed_from, next_inside, shown_byte, is_opening, is_closing}
 use Rattle.diagram_page.specs.declared.lines.Inside.{Inside}
 use Rattle.diagram_page.specs.declared.lines.Inside.TheVariants as inside
-use Rattle.diagram_page.proofs.CutLaws.{or_false}
 
 -- what such a byte does
 record Settled (i : Inside) (b : ℕ) (bs : List ℕ) : Type 0 where
@@ -18,23 +17,21 @@ either true x = refl
 either false x = refl
 
 settled : (i : Inside) (b : ℕ) (bs : List ℕ) → is_settled i b ≡ true → Settled i b bs
-settled inside.LineStart b bs h = absurd (false≢true h)
-settled inside.Opening b bs h = absurd (false≢true h)
-settled inside.Closing b bs h = absurd (false≢true h)
 settled inside.Plain b bs h =
-    let all = or_false (b == line_feed) (b == 13 || (b == 40 || b == 47)) (not-true _ h) in
-    let more = or_false (b == 13) (b == 40 || b == 47) all.1 in
-    let last = or_false (b == 40) (b == 47) more.1 in
+    let all = or_parts (b == line_feed) (b == 13 || (b == 40 || b == 47)) (not-true _ h) in
+    let more = or_parts (b == 13) (b == 40 || b == 47) all.1 in
+    let last = or_parts (b == 40) (b == 47) more.1 in
     record { blanked = rw (all.0, more.0, last.0, last.1) refl; unclosed = λ line since. rw (all.0, last.0, last.1) refl }
 settled inside.RungLine b bs h =
-    let all = or_false (b == line_feed) (b == 13) (not-true _ h) in
+    let all = or_parts (b == line_feed) (b == 13) (not-true _ h) in
     record { blanked = rw (all.0, all.1) refl; unclosed = λ line since. rw all.0 refl }
 settled inside.Block b bs h =
-    let all = or_false (b == line_feed) (b == 42) (not-true _ h) in
+    let all = or_parts (b == line_feed) (b == 42) (not-true _ h) in
     record { blanked = rw (all.0, all.1) (ap (λ z. z ∷ blanked_from inside.Block bs) (either _ space)); unclosed = λ line since. rw (all.0, all.1) refl }
 settled inside.LineComment b bs h =
     let other : (b == line_feed) ≡ false = not-true _ h in
     record { blanked = rw other (ap (λ z. z ∷ blanked_from inside.LineComment bs) (either _ space)); unclosed = λ line since. rw other refl }
+settled _ b bs h = absurd (false≢true h)
 
 abbrev pub run : Inside → List ℕ → ℕ
 run i text = prefix_len (is_settled i) text

@@ -1,6 +1,6 @@
 -- The line that the reader finds for a comment that never ends is the one on which the pieces of the text have it.
 use Rattle.std.proofs.Common.{◌≡◌, ◌↔◌, ℕ, ◌+◌, ◌⊎◌, inl, inr, Bool, true, false, cond, ◌&&◌, ◌==◌, List, [], ◌∷◌, ◌++◌, flat_map, Option, Some, None, refl, sym, ap, ◌∙◌, append-nil, arith}
-use Rattle.std.proofs.lemmas.Bool.{eqb-true, false≢true}
+use Rattle.std.proofs.lemmas.Bool.{eqb-true, false≢true, or_parts}
 use Rattle.std.proofs.lemmas.List.Sums.{sum_by-cons, sum_by-append}
 use Rattle.diagram_declarations.specs.Text.{begins_with, closes}
 use Rattle.diagram_program.specs.Bytes.{line_feed, is_upright}
@@ -8,7 +8,7 @@ use Rattle.diagram_page.specs.Lines.{Piece, Plain, RungLine, Comment, OpenCommen
 use Rattle.diagram_page.specs.ReadLines.{after_plain, is_opening, is_closing, unclosed_from, unclosed_line}
 use Rattle.diagram_page.specs.declared.lines.Inside.{Inside}
 use Rattle.diagram_page.specs.declared.lines.Inside.TheVariants as inside
-use Rattle.diagram_page.proofs.CutLaws.{inside_at, or_false, goes_on, rest_of_line, rung_start, plain_next}
+use Rattle.diagram_page.proofs.CutLaws.{inside_at, goes_on, rest_of_line, rung_start, plain_next}
 
 -- The line on which a comment begins that never ends, found piece by piece, where the first piece begins on this line.
 abbrev unclosed_in : ℕ → List Piece → Option ℕ
@@ -49,7 +49,7 @@ comment_ends : (bytes after : List ℕ) (line : ℕ) (since : Option ℕ) → cl
     → unclosed_from inside.Block line since ((bytes ++ (42 ∷ 41 ∷ [])) ++ after) ≡ unclosed_from inside.Plain (line + line_feeds bytes) None after
 comment_ends [] after line since h = let same : line ≡ line + 0 = omega arith in ap (λ n. unclosed_from inside.Plain n None after) same
 comment_ends (b ∷ bs) after line since h =
-    let parts = or_false (b == 42 && begins_with 41 bs) (closes bs) h in
+    let parts = or_parts (b == 42 && begins_with 41 bs) (closes bs) h in
     comment_step b ((bs ++ (42 ∷ 41 ∷ [])) ++ after) line since (goes_on b bs after parts.0)
     ∙ comment_ends bs after (behind line b) since parts.1
     ∙ ap (λ n. unclosed_from inside.Plain n None after) (counted line b bs)
@@ -57,7 +57,7 @@ comment_ends (b ∷ bs) after line since h =
 comment_stays : (bytes : List ℕ) (line : ℕ) (since : Option ℕ) → closes bytes ≡ false → unclosed_from inside.Block line since bytes ≡ since
 comment_stays [] line since h = refl
 comment_stays (b ∷ bs) line since h =
-    let parts = or_false (b == 42 && begins_with 41 bs) (closes bs) h in
+    let parts = or_parts (b == 42 && begins_with 41 bs) (closes bs) h in
     comment_step b bs line since parts.0 ∙ comment_stays bs (behind line b) since parts.1
 
 line_over : (after : List ℕ) (line : ℕ) → (after ≡ []) ⊎ (begins_with line_feed after ≡ true)

@@ -1,11 +1,13 @@
 -- The forms of a cell: what its eleven characters are, before the name over it is looked up.
 -- The symbols are those of IEC 61131-3:2013, 8.2 (contacts, coils) and 6.6.3 (blocks); their places in the cell are the profile's.
-use Rattle.std.specs.Prelude.{Contains, ◌≡◌, ◌↔◌, ℕ, ◌≤◌, ◌⊎◌, ◌&&◌, nat_le, Bool, List, [], ◌∷◌, ◌++◌, length, replicate, codes, true, false, Option, Some}
+use Rattle.std.specs.Prelude.{Contains, ◌≡◌, ◌↔◌, ℕ, ◌≤◌, ◌⊎◌, ◌&&◌, nat_le, Bool, List, [], ◌∷◌, ◌++◌, length, replicate, codes, true, false, Option, Some, None}
 use Rattle.diagram_declarations.specs.Name.{is_name}
+use Rattle.diagram_declarations.specs.declared.kind.BlockKind.{BlockKind}
 use Rattle.diagram_declarations.specs.declared.kind.BlockKind.TheVariants as kind
 use Rattle.diagram_program.specs.Bytes.{dash, space}
 use Rattle.diagram_program.specs.declared.mode.Mode.TheVariants as mode
 use Rattle.diagram_program.specs.declared.mode.CoilMode.TheVariants as coil
+use Rattle.diagram_declarations.specs.declared.kind.Pin.{Pin}
 use Rattle.diagram_declarations.specs.declared.kind.Pin.TheVariants as pin
 use Rattle.diagram_page.specs.declared.form.Form.{Form}
 use Rattle.diagram_page.specs.declared.form.Form.TheVariants.{Empty, Wire, Contact, Coil, Block, Lower, Jump, Return}
@@ -50,6 +52,18 @@ HasForm chars form = Contains whole_cells (chars, form) ⊎ HasMark chars form
 -- What the characters of a cell are: this form, or none.
 abbrev pub IsFormOf : List ℕ → Option Form → Type 0
 IsFormOf chars o = (form : Form) → (o ≡ Some form) ↔ HasForm chars form
+
+-- the kind of a block
+abbrev pub block_in : Form → Option BlockKind
+block_in form = elim form [ Block kind ↦ Some kind | _ ↦ None ]
+
+-- the input of a lower cell
+abbrev pub lower_in : Form → Option Pin
+lower_in form = elim form [ Lower pin linked ↦ Some pin | _ ↦ None ]
+
+-- the label of a jump
+abbrev pub jump_in : Form → Option (List ℕ)
+jump_in form = elim form [ Jump label ↦ Some label | _ ↦ None ]
 
 -- The cell leads out of its rung.
 abbrev pub leaps : Option Form → Bool

@@ -1,9 +1,9 @@
-//! The forms of a cell.
+//! The forms of a cell: what its characters stand for.
 
 ghost use Rattle.std.specs.Prelude.{◌≡◌, ◌≤◌, ◌==◌, ◌&&◌, ◌||◌, ◌↔◌, ℕ, List, codes, drop, length, map, take, option_map, Some};
 ghost use Rattle.std.specs.List.{find, list_all, prefix_len};
 ghost use Rattle.std.specs.Str.{bytes_eq};
-ghost use Rattle.diagram_page.specs.Form.{HasForm};
+ghost use Rattle.diagram_page.specs.Form.{HasForm, block_in, jump_in, lower_in};
 ghost use Rattle.diagram_page.specs.ReadForm.{jump_to, mark_at};
 ghost use Rattle.diagram_program.specs.Bytes.{dash, space};
 ghost use Rattle.diagram_page.specs.declared.form.Form.{Form};
@@ -27,6 +27,56 @@ pub enum Form {
     Jump(Name),
     /// A jump past the last rung.
     Return,
+}
+
+impl Form {
+    /// The kind of a block.
+    pub fn block(self) -> Option<BlockKind>
+        ensures { result ≡ block_in self }
+    {
+        match self {
+            Form::Block(kind) => Some(kind),
+            Form::Empty
+            | Form::Wire
+            | Form::Contact(_)
+            | Form::Coil(_)
+            | Form::Lower(_, _)
+            | Form::Jump(_)
+            | Form::Return => None,
+        }
+    }
+
+    /// The input of a lower cell.
+    pub fn lower(self) -> Option<Pin>
+        ensures { result ≡ lower_in self }
+    {
+        match self {
+            Form::Lower(pin, _) => Some(pin),
+            Form::Empty
+            | Form::Wire
+            | Form::Contact(_)
+            | Form::Coil(_)
+            | Form::Block(_)
+            | Form::Jump(_)
+            | Form::Return => None,
+        }
+    }
+
+    /// The label of a jump.
+    pub fn jump(self) -> Option<Name>
+        ensures { result ≡ jump_in self }
+    {
+        match self {
+            Form::Jump(label) => Some(label),
+            Form::Empty
+            | Form::Wire
+            | Form::Contact(_)
+            | Form::Coil(_)
+            | Form::Block(_)
+            | Form::Lower(_, _)
+            | Form::Return => None,
+        }
+    }
 }
 
 /// The cells that are spelled in one way.
@@ -62,13 +112,14 @@ const SYMBOLS: [(&[u8], Form); 10] = [
     (b"(N)", Form::Coil(CoilMode::Falling)),
 ];
 
+/// Whether two texts are the same, byte by byte.
 fn same_bytes(a: &[u8], b: &[u8]) -> bool
     ensures { result ≡ bytes_eq a.now b.now }
 {
     a == b
 }
 
-/// The form that a table has for a spelling.
+/// The form that a table of spellings has for these characters.
 fn lookup(mut table: &[(&[u8], Form)], chars: &[u8]) -> Option<Form>
     ensures { result ≡ option_map (λ (e : List ℕ × Form). e.1) (find (λ e. bytes_eq e.0 chars.now) (map (λ e. (e.0.now, e.1)) table.entry.now)) }
 {
@@ -81,13 +132,14 @@ fn lookup(mut table: &[(&[u8], Form)], chars: &[u8]) -> Option<Form>
     None
 }
 
+/// Whether all bytes of a text are this one.
 fn all_are(byte: u8, chars: &[u8]) -> bool
     ensures { result ≡ list_all (λ b. b == byte) chars.now }
 {
     chars.iter().all(|b| *b == byte)
 }
 
-/// A jump to the label at the start, where only spaces follow.
+/// The form of a jump to the label at the start of a text, where only spaces follow.
 #[tactic(auto, unfolding(crate::specs::ReadForm::label_at, crate::specs::ReadForm::behind_label))]
 fn jump_to(text: &[u8]) -> Option<Form>
     ensures { result ≡ jump_to text.now }
@@ -100,7 +152,7 @@ fn jump_to(text: &[u8]) -> Option<Form>
     }
 }
 
-/// How many dashes there are at the start.
+/// How many dashes a cell begins with.
 fn dashes_before(chars: &[u8]) -> usize
     ensures value { result ≡ prefix_len (λ b. b == dash) chars.now }
     ensures within { result ≤ length chars.now }
@@ -115,7 +167,7 @@ fn is_filler(tail: &[u8]) -> bool
     all_are(b'-', tail) || all_are(b' ', tail)
 }
 
-/// Whether this is `<RETURN>` and spaces.
+/// Whether the rest of a cell is `<RETURN>` and spaces.
 fn is_return(text: &[u8]) -> bool
     ensures { result ≡ (bytes_eq (codes "<RETURN>") (take 8 text.now) && list_all (λ b. b == space) (drop 8 text.now)) }
 {
@@ -123,7 +175,7 @@ fn is_return(text: &[u8]) -> bool
     same_bytes(b"<RETURN>", &text[..end]) && all_are(b' ', &text[end..])
 }
 
-/// The form of a mark, which nothing but its filler follows.
+/// The form that a mark such as `| |` or `( )` stands for, where only filler follows it in the cell.
 fn mark_at(text: &[u8]) -> Option<Form>
     ensures { result ≡ mark_at text.now }
 {

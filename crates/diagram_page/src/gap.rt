@@ -1,4 +1,4 @@
-//! Labels, and blank lines.
+//! The lines between rungs: labels and blank lines.
 
 ghost use Rattle.std.specs.Prelude.{◌≡◌, ◌≤◌, length, drop, if◌then◌else◌, Some, None};
 ghost use Rattle.std.specs.List.{list_all, prefix_len};
@@ -8,7 +8,7 @@ ghost use Rattle.diagram_page.specs.Gap.{is_gap_blank, label_in, is_named};
 
 use diagram_declarations::Name;
 
-/// How many blanks there are at the start.
+/// How many blanks a line begins with.
 fn blanks_before(text: &[u8]) -> usize
     ensures value { result ≡ prefix_len is_gap_blank text.now }
     ensures within { result ≤ length text.now }
@@ -18,14 +18,14 @@ fn blanks_before(text: &[u8]) -> usize
         .count()
 }
 
-/// What follows the blanks at the start.
+/// A line without the blanks at its start.
 fn after_blanks(text: &[u8]) -> &[u8]
     ensures { result.now ≡ drop (prefix_len is_gap_blank text.now) text.now }
 {
     text.split_at(blanks_before(text)).1
 }
 
-/// Whether the line is blank.
+/// Whether a line has nothing but blanks.
 pub fn is_blank_line(text: &[u8]) -> bool
     ensures { result ≡ list_all is_gap_blank text.now }
 {
@@ -37,7 +37,7 @@ pub fn is_blank_line(text: &[u8]) -> bool
     blank
 }
 
-/// How long the word at the start is.
+/// How long the word at the start of a line is.
 pub(crate) fn word_len(text: &[u8]) -> usize
     ensures value { result ≡ prefix_len is_name_byte text.now }
     ensures within { result ≤ length text.now }
@@ -58,7 +58,7 @@ pub(crate) fn label_named(word: &[u8]) -> Option<Name>
     }
 }
 
-/// The label that the line is, where it is one.
+/// The label that a line is: a name between blanks with a colon after it.
 #[tactic(auto, using(crate::proofs::LabelLaws::label_by))]
 pub fn label_in(text: &[u8]) -> Option<Name>
     ensures { result ≡ label_in text.now }

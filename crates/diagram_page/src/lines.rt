@@ -11,7 +11,7 @@ ghost use Rattle.diagram_page.specs.declared.lines.Inside.TheVariants as inside;
 
 use std::alloc::{AllocError, Global};
 
-/// What a byte of the drawing stands in.
+/// What a byte of the drawing belongs to: a line of a rung, other text, or a comment.
 #[derive(Clone, Copy)]
 pub(crate) enum Inside {
     /// Nothing: a line begins here.
@@ -38,12 +38,15 @@ pub struct Part {
     pub end: usize,
 }
 
+/// Whether a line that begins with this byte is one of a rung: its left rail is `|` or `+`.
 fn is_rung_start(b: u8) -> bool
     ensures { result ≡ is_upright b }
 {
     b == b'|' || b == b'+'
 }
 
+/// What the byte after `b` belongs to (a line of a rung, other text, a comment), by what `b` belongs to and what comes after it. In
+/// a line of a rung no comment begins.
 fn next_inside(inside: Inside, b: u8, after: &[u8]) -> Inside
     ensures { result ≡ next_inside inside b after.now }
 {
@@ -86,7 +89,8 @@ fn next_inside(inside: Inside, b: u8, after: &[u8]) -> Inside
     }
 }
 
-/// What the lines show of a byte, where `next` is what the next one stands in.
+/// What the drawing has in place of a byte: a comment becomes blanks, so that all that follows keeps its column. `next` is what the
+/// next byte belongs to.
 fn shown_byte(inside: Inside, next: Inside, b: u8, after: &[u8]) -> u8
     requires { next ≡ next_inside inside b after.now }
     ensures { result ≡ shown_byte inside b after.now }
@@ -110,7 +114,7 @@ fn shown_byte(inside: Inside, next: Inside, b: u8, after: &[u8]) -> u8
     }
 }
 
-/// How many bytes at the start stand in the same and are shown in one way, whatever follows them.
+/// How many bytes at the start are shown in the same way whatever follows them, so that they are copied at once.
 fn run_len(inside: Inside, text: &[u8]) -> usize
     ensures value { result ≡ prefix_len (is_settled inside) text.now }
     ensures within { result ≤ length text.now }
@@ -133,7 +137,7 @@ fn run_len(inside: Inside, text: &[u8]) -> usize
     }
 }
 
-/// Adds what the lines show of a run.
+/// Adds what the drawing has in place of a run of such bytes.
 fn show_run(seen: &mut Vec<u8>, inside: Inside, run: &[u8]) -> Result<(), AllocError>
     ensures { OnOk result (seen.new.items ≡ seen.old.items ++ shown_run inside run.now) }
 {
@@ -196,7 +200,7 @@ pub fn shown_text(alloc: Global, mut text: &[u8]) -> Result<Shown, AllocError>
     })
 }
 
-/// The lines between the line feeds.
+/// The lines of a text, without their line feeds.
 ///
 /// # Errors
 ///
@@ -207,6 +211,7 @@ pub fn lines(alloc: Global, text: &[u8]) -> Result<Vec<&[u8]>, AllocError>
     text.split(|b| *b == b'\n').collect(alloc)
 }
 
+/// Whether a line begins at the left rail, so that it is one of a rung.
 fn begins_rung(line: &[u8]) -> bool
     ensures { result ≡ begins is_upright line.now }
 {
@@ -216,6 +221,8 @@ fn begins_rung(line: &[u8]) -> bool
     }
 }
 
+/// The parts in all lines but the first, which is what the declarations leave of theirs: one for each run of lines that begin at the
+/// left rail, with the gap lines before it.
 fn parts_after(alloc: Global, mut lines: &[&[u8]]) -> Result<Vec<Part>, AllocError>
     ensures exact { IfOk result (λ v. v.items ≡ parts_from 0 1 None (map (λ l. l.now) lines.entry.now)) }
     ensures within { IfOk result (λ v. All (IsWithin (length lines.entry.now + 1)) v.items) }
@@ -271,7 +278,7 @@ pub fn parts(alloc: Global, lines: &[&[u8]]) -> Result<Vec<Part>, AllocError>
     }
 }
 
-/// The lines from one to before another.
+/// The lines from number `start` to before number `end`.
 pub(crate) fn lines_between<'a, 'b>(
     lines: &'a [&'b [u8]],
     start: usize,
@@ -284,7 +291,7 @@ pub(crate) fn lines_between<'a, 'b>(
     &lines[start..end]
 }
 
-/// The line after the last rung.
+/// The number of the first line after the last rung.
 pub fn last_gap(parts: &[Part]) -> usize
     ensures { result ≡ last_gap parts.now }
 {

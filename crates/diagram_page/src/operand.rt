@@ -20,14 +20,14 @@ pub struct Reference {
     pub output: Option<Output>,
 }
 
-/// What stands over a cell: whether there is text, and the declared name that it is.
+/// What is written over a cell: whether there is text, and the declared name that it is.
 #[derive(Clone, Copy)]
 pub struct NameOver {
     pub written: bool,
     pub name: Option<Reference>,
 }
 
-/// How many spaces there are at the start.
+/// How many spaces a text begins with.
 fn spaces_before(chars: &[u8]) -> usize
     ensures value { result ≡ prefix_len (λ b. b == space) chars.now }
     ensures within { result ≤ length chars.now }
@@ -35,7 +35,7 @@ fn spaces_before(chars: &[u8]) -> usize
     chars.iter().take_while(|b| **b == b' ').count()
 }
 
-/// How many spaces there are at the end.
+/// How many spaces a text ends with.
 fn spaces_after(chars: &[u8]) -> usize
     ensures value { result ≡ suffix_len (λ b. b == space) chars.now }
     ensures within { result ≤ length chars.now }
@@ -56,14 +56,14 @@ pub(crate) fn word_in(chars: &[u8]) -> &[u8]
     }
 }
 
-/// Whether the word ends so, in any letter case.
+/// Whether a word ends with this one, in any letter case, as with `.Q`.
 fn ends_in(suffix: &[u8], word: &[u8]) -> bool
     ensures { result ≡ (nat_le (length suffix.now) (length word.now) && same_letters (drop (length word.now - length suffix.now) word.now) suffix.now) }
 {
     suffix.len() <= word.len() && same_letters(&word[word.len() - suffix.len()..], suffix)
 }
 
-/// A declared name, with this output.
+/// The variable or instance of a declared name, with the output that is written after it.
 fn refer(decls: &Decls, output: Option<Output>, word: &[u8]) -> Option<Reference>
     ensures { result ≡ reference decls.now output word.now }
 {
@@ -71,7 +71,7 @@ fn refer(decls: &Decls, output: Option<Output>, word: &[u8]) -> Option<Reference
     Some(Reference { symbol, output })
 }
 
-/// What a word stands for.
+/// The variable or instance that a word over a cell names, where it names one.
 #[tactic(auto, unfolding(crate::specs::Operand::refer_to))]
 pub(crate) fn refer_to(decls: &Decls, word: &[u8]) -> Option<Reference>
     ensures { result ≡ refer_to decls.now word.now }
@@ -93,6 +93,7 @@ pub(crate) fn refer_to(decls: &Decls, word: &[u8]) -> Option<Reference>
     }
 }
 
+/// Whether the instance's kind has this output, Q or Q1.
 fn has_output(decls: &Decls, inst: usize, output: Output) -> bool
     ensures { IsTrue result ↔ (option_map (λ x. (traits_of x.kind).output) (slice_get decls.now.instances inst) ≡ Some output) }
 {
@@ -102,6 +103,7 @@ fn has_output(decls: &Decls, inst: usize, output: Output) -> bool
     }
 }
 
+/// Whether the variable is an input, which no coil may write.
 fn is_input(decls: &Decls, var: usize) -> bool
     ensures { IsTrue result ↔ (option_map is_input (slice_get decls.now.vars var) ≡ Some true) }
 {
@@ -111,6 +113,7 @@ fn is_input(decls: &Decls, var: usize) -> bool
     }
 }
 
+/// Whether the instance is a block of this kind.
 fn is_of_kind(decls: &Decls, inst: usize, kind: BlockKind) -> bool
     ensures { IsTrue result ↔ (option_map (λ x. x.kind) (slice_get decls.now.instances inst) ≡ Some kind) }
 {
@@ -153,35 +156,24 @@ pub fn is_odd(decls: &Decls, form: Option<Form>, name: Option<Reference>) -> boo
     !may_have(decls, form, name.symbol, name.output)
 }
 
-/// The instance of which this form and this name draw a block: none by a name that the block can't have.
+/// The instance whose block a cell of this form draws with this name over it; None where the name can't be that of such a block.
 pub fn block_drawn(decls: &Decls, form: Option<Form>, name: Option<Reference>) -> Option<usize>
     ensures { (inst : ℕ) → (result ≡ Some inst) ↔ DrawsBlock decls.now form name inst }
 {
-    match form {
-        Some(Form::Block(kind)) => match name {
-            Some(
-                Reference {
-                    symbol: Symbol::Instance(inst),
-                    output: None,
-                },
-            ) if is_of_kind(decls, inst, kind) => Some(inst),
-            Some(
-                Reference {
-                    symbol: Symbol::Instance(_) | Symbol::Var(_),
-                    ..
-                },
-            )
-            | None => None,
-        },
-        None
-        | Some(
-            Form::Empty
-            | Form::Wire
-            | Form::Contact(_)
-            | Form::Coil(_)
-            | Form::Lower(_, _)
-            | Form::Jump(_)
-            | Form::Return,
-        ) => None,
+    let kind = form?.block()?;
+    match name {
+        Some(
+            Reference {
+                symbol: Symbol::Instance(inst),
+                output: None,
+            },
+        ) if is_of_kind(decls, inst, kind) => Some(inst),
+        Some(
+            Reference {
+                symbol: Symbol::Instance(_) | Symbol::Var(_),
+                ..
+            },
+        )
+        | None => None,
     }
 }

@@ -17,6 +17,7 @@ pub struct Outline {
     pub parts: Vec<Part>,
 }
 
+/// The parts of a drawing, from its text without comments.
 fn rung_parts(alloc: Global, text: &[u8]) -> Result<Vec<Part>, AllocError>
     ensures { IfOk result (λ v. v.items ≡ parts_of (lines_of text.now)) }
 {
@@ -25,7 +26,7 @@ fn rung_parts(alloc: Global, text: &[u8]) -> Result<Vec<Part>, AllocError>
     parts(alloc, &lines)
 }
 
-/// What follows a place of a text.
+/// The text from a place on.
 pub fn behind(text: &[u8], place: usize) -> &[u8]
     requires { place ≤ length text.now }
     ensures { result.now ≡ drop place text.now }

@@ -19,6 +19,7 @@ use diagram_declarations::{Decls, Symbol};
 use diagram_program::geometry::{PLACES, Place, RUNGS};
 use std::alloc::{AllocError, Global};
 
+/// The lines of the rung with this number, by where its part is.
 #[tactic(auto, unfolding(crate::specs::Lines::rung_of))]
 fn rung_in<'a, 'b>(lines: &'a [&'b [u8]], parts: &[Part], rung: usize) -> &'a [&'b [u8]]
     requires rungs { rung < length parts.now }
@@ -30,7 +31,7 @@ fn rung_in<'a, 'b>(lines: &'a [&'b [u8]], parts: &[Part], rung: usize) -> &'a [&
     lines_between(lines, part.start, part.end)
 }
 
-/// The rung and its gap.
+/// The part of a rung: its lines, and its gap lines.
 pub fn part_at(page: PageView<'_, '_>, rung: usize) -> Part
     requires rungs { rung < length page.parts.now }
     ensures value { result ≡ part_in page.entry.parts.now rung }
@@ -39,7 +40,7 @@ pub fn part_at(page: PageView<'_, '_>, rung: usize) -> Part
     page.parts[rung]
 }
 
-/// The lines of the rung.
+/// All lines of a rung, two for each row.
 pub fn rung_at<'a, 'b>(page: PageView<'a, 'b>, rung: usize) -> &'a [&'b [u8]]
     requires rungs { rung < length page.parts.now }
     ensures value { map (λ l. l.now) result.now ≡ rung_at (seen page.entry) rung }
@@ -48,7 +49,7 @@ pub fn rung_at<'a, 'b>(page: PageView<'a, 'b>, rung: usize) -> &'a [&'b [u8]]
     rung_in(page.lines, page.parts, rung)
 }
 
-/// What the cells of the first hundred rungs are.
+/// The form of each cell in the first hundred rungs, read once for all rules.
 ///
 /// # Errors
 ///
@@ -72,7 +73,7 @@ pub fn forms(
     Ok(forms)
 }
 
-/// What stands over the cells of the first hundred rungs.
+/// What is written over each cell in the first hundred rungs, read once for all rules.
 ///
 /// # Errors
 ///
@@ -100,7 +101,7 @@ pub fn overs(
     Ok(overs)
 }
 
-/// The form of a cell.
+/// The form of the cell at a place; None where its characters have none.
 pub fn form_at(page: PageView<'_, '_>, at: Place) -> Option<Form>
     ensures { result ≡ form_at (seen page.entry) at.rung at.row at.column }
 {
@@ -112,6 +113,7 @@ pub fn form_at(page: PageView<'_, '_>, at: Place) -> Option<Form>
     }
 }
 
+/// What is written over a cell, read once for the whole page.
 fn over_at(page: PageView<'_, '_>, at: Place) -> NameOver
     requires { at.rung < length page.parts.now }
     ensures { result ≡ over_with page.entry.decls.now (text_over (rung_at (seen page.entry) at.rung) at.row at.column) }
@@ -119,7 +121,7 @@ fn over_at(page: PageView<'_, '_>, at: Place) -> NameOver
     page.overs[at.number()]
 }
 
-/// Whether there is text over a cell.
+/// Whether something is written over the cell at a place.
 pub fn is_written_over(page: PageView<'_, '_>, at: Place) -> bool
     requires { at.rung < length page.parts.now }
     ensures { result ≡ has_text (text_over (rung_at (seen page.entry) at.rung) at.row at.column) }
@@ -127,7 +129,7 @@ pub fn is_written_over(page: PageView<'_, '_>, at: Place) -> bool
     over_at(page, at).written
 }
 
-/// What the text over a cell stands for.
+/// The variable or instance that is named over the cell at a place.
 pub fn name_over(page: PageView<'_, '_>, at: Place) -> Option<Reference>
     requires { at.rung < length page.parts.now }
     ensures { result ≡ name_over (seen page.entry) at.rung at.row at.column }
@@ -135,30 +137,15 @@ pub fn name_over(page: PageView<'_, '_>, at: Place) -> Option<Reference>
     over_at(page, at).name
 }
 
-/// The instance of the block at a place.
+/// The instance whose block is at a place.
 #[tactic(auto, unfolding(crate::specs::Page::instance_at))]
 pub fn instance_at(page: PageView<'_, '_>, at: Place) -> Option<usize>
     requires { at.rung < length page.parts.now }
     ensures { result ≡ instance_at (seen page.entry) at.rung at.row at.column }
 {
-    match (form_at(page, at), name_over(page, at)) {
-        (Some(Form::Block(_)), Some(name)) => match name.symbol {
-            Symbol::Instance(inst) => Some(inst),
-            Symbol::Var(_) => None,
-        },
-        (Some(Form::Block(_)), None)
-        | (
-            None
-            | Some(
-                Form::Empty
-                | Form::Wire
-                | Form::Contact(_)
-                | Form::Coil(_)
-                | Form::Lower(_, _)
-                | Form::Jump(_)
-                | Form::Return,
-            ),
-            _,
-        ) => None,
+    form_at(page, at)?.block()?;
+    match name_over(page, at)?.symbol {
+        Symbol::Instance(inst) => Some(inst),
+        Symbol::Var(_) => None,
     }
 }

@@ -79,7 +79,7 @@ pub(crate) fn text_at(lines: &[&[u8]], line: usize, column: usize) -> [u8; CELL]
     ]
 }
 
-/// The joint on the left of a cell.
+/// The character of the joint on the left of a cell.
 pub fn joint(lines: &[&[u8]], row: usize, column: usize) -> u8
     requires rows { row < ROWS }
     requires columns { column < COLUMNS }

@@ -11,7 +11,7 @@ use crate::operand::NameOver;
 use diagram_declarations::Decls;
 
 /// What a drawing is read from: the lines after END_VAR, the rungs among them, each with its gap, the line where a comment
-/// begins that never ends, what the cells are, what stands over them, and where each instance is drawn first.
+/// begins that never ends, what the cells are, what is written over them, and where each instance is drawn first.
 #[derive(Clone, Copy)]
 pub struct PageView<'a, 'b> {
     pub decls: &'a Decls,

@@ -14,6 +14,8 @@ use Rattle.diagram_program.specs.declared.cell.Cell.{Cell}
 use Rattle.diagram_program.specs.declared.cell.Cell.TheVariants as cell
 use Rattle.diagram_program.specs.declared.cell.Joint.{Joint}
 use Rattle.diagram_program.specs.declared.cell.Joint.TheVariants as joint
+use Rattle.diagram_program.specs.declared.mode.CoilMode.{CoilMode}
+use Rattle.diagram_program.specs.declared.mode.Mode.{Mode}
 use Rattle.diagram_program.specs.declared.site.Site.{Site}
 
 -- The declarations, and what is at each place: all places by rung, column and row.
@@ -75,6 +77,14 @@ has_memory c = is_some (memory_in c)
 -- how many edge contacts and edge coils there are
 abbrev pub memories_of : Drawing → ℕ
 memories_of d = count_by (λ s. has_memory s.cell) d.sites
+
+-- the mode of a contact, and what it reads
+abbrev pub contact_in : Cell → Option (Mode × Operand)
+contact_in c = elim c [ cell.Contact mode operand memory ↦ Some (mode, operand) | _ ↦ None ]
+
+-- the mode of a coil, and the variable that it writes
+abbrev pub coil_in : Cell → Option (CoilMode × ℕ)
+coil_in c = elim c [ cell.Coil mode var memory ↦ Some (mode, var) | _ ↦ None ]
 
 abbrev pub is_coil_of : ℕ → Cell → Bool
 is_coil_of var c = elim c [ cell.Coil mode v memory ↦ v == var | _ ↦ false ]

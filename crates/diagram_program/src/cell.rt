@@ -1,7 +1,7 @@
 //! The cells and joints of a program.
 
 ghost use Rattle.std.specs.Prelude.{◌≡◌};
-ghost use Rattle.diagram_program.specs.Program.{has_memory, is_coil_of};
+ghost use Rattle.diagram_program.specs.Program.{block_in, coil_in, contact_in, has_memory, is_coil_of};
 
 use crate::mode::{CoilMode, Mode};
 
@@ -50,7 +50,7 @@ pub enum Cell {
     Block {
         inst: usize,
     },
-    /// The lower cell of a counter or a bistable, below its block; `linked` tells whether it has a left link.
+    /// The lower cell of a counter or a bistable, below its block; `linked` says whether it has a left link.
     Lower {
         inst: usize,
         linked: bool,
@@ -64,22 +64,65 @@ pub enum Cell {
 }
 
 impl Cell {
-    /// Whether it is a coil on the variable with this number.
-    pub fn is_coil_of(self, var: usize) -> bool
-        ensures { result ≡ is_coil_of var self }
+    /// The mode of a contact, and what it reads.
+    pub fn contact(self) -> Option<(Mode, Operand)>
+        ensures { result ≡ contact_in self }
     {
         match self {
-            Cell::Coil { var: written, .. } => written == var,
+            Cell::Contact { mode, operand, .. } => Some((mode, operand)),
+            Cell::Empty
+            | Cell::Wire
+            | Cell::Coil { .. }
+            | Cell::Block { .. }
+            | Cell::Lower { .. }
+            | Cell::Jump { .. }
+            | Cell::Return => None,
+        }
+    }
+
+    /// The mode of a coil, and the variable that it writes.
+    pub fn coil(self) -> Option<(CoilMode, usize)>
+        ensures { result ≡ coil_in self }
+    {
+        match self {
+            Cell::Coil { mode, var, .. } => Some((mode, var)),
             Cell::Empty
             | Cell::Wire
             | Cell::Contact { .. }
             | Cell::Block { .. }
             | Cell::Lower { .. }
             | Cell::Jump { .. }
-            | Cell::Return => false,
+            | Cell::Return => None,
         }
     }
-    /// Whether it is an edge contact or an edge coil, which has a memory.
+
+    /// The instance of a block.
+    pub fn block(self) -> Option<usize>
+        ensures { result ≡ block_in self }
+    {
+        match self {
+            Cell::Block { inst } => Some(inst),
+            Cell::Empty
+            | Cell::Wire
+            | Cell::Contact { .. }
+            | Cell::Coil { .. }
+            | Cell::Lower { .. }
+            | Cell::Jump { .. }
+            | Cell::Return => None,
+        }
+    }
+
+    /// Whether it is a coil on the variable with this number.
+    pub fn is_coil_of(self, var: usize) -> bool
+        ensures { result ≡ is_coil_of var self }
+    {
+        match self.coil() {
+            Some((_, written)) => written == var,
+            None => false,
+        }
+    }
+
+    /// Whether the cell is an edge contact or an edge coil: these have a memory of what they saw one scan before.
     pub fn has_memory(self) -> bool
         ensures { result ≡ has_memory self }
     {

@@ -95,7 +95,7 @@ pub(crate) fn feeder(sheet: Sheet<'_>, at: Place, count: usize) -> u8
     last
 }
 
-/// The place with this number in its rung.
+/// The place with this number in its rung, counted by columns from the left and in each from the top row.
 pub(crate) fn place_in(rung: usize, at: usize) -> Place
     requires rungs { rung < RUNGS }
     requires places { at < PLACES }
@@ -108,6 +108,8 @@ pub(crate) fn place_in(rung: usize, at: usize) -> Place
     }
 }
 
+/// Where the second input of a block is: the links that feed the cell below its place, where that is a pin joined with a wire;
+/// otherwise OFF.
 pub(crate) fn below_of(sheet: Sheet<'_>, rung: usize, at: usize) -> u8
     requires rungs { rung < RUNGS }
     requires places { at < PLACES }
@@ -130,7 +132,7 @@ pub(crate) fn below_of(sheet: Sheet<'_>, rung: usize, at: usize) -> u8
     }
 }
 
-/// Whether the right link of the cell at a place enters the group on its right.
+/// Whether the cell at a place passes power on: its right link enters the group of joints on its right.
 fn feeds_on(sheet: Sheet<'_>, at: Place) -> bool
     ensures { result ≡ (nat_lt (at.column + 1) COLUMNS && feeds (drawing_of sheet.entry) at.rung at.row (at.column + 1) at.row) }
 {
@@ -138,7 +140,7 @@ fn feeds_on(sheet: Sheet<'_>, at: Place) -> bool
     column < COLUMNS && feeds(sheet, Place { rung, row, column }, row)
 }
 
-/// Where the OR is of what comes from the rows above into the group on the right of the cell at a place.
+/// Where the gate of a cell finds the OR of what the rows above bring into the group of joints on its right.
 fn other_of(sheet: Sheet<'_>, at: Place) -> u8
     ensures { result ≡ (if nat_lt (at.column + 1) COLUMNS then last_feeder (drawing_of sheet.entry) at.rung at.row (at.column + 1) at.row else OFF) }
 {
@@ -150,6 +152,8 @@ fn other_of(sheet: Sheet<'_>, at: Place) -> u8
     }
 }
 
+/// What a gate reads of its cell at once: the value of a contact's variable, or its inverse. Any other cell is asked when the gate
+/// is evaluated.
 fn literal_of(cell: Cell) -> Literal
     ensures { result ≡ literal_of cell }
 {
@@ -175,7 +179,7 @@ fn literal_of(cell: Cell) -> Literal
     }
 }
 
-/// The gate of a cell that is a block, or whose right link enters the group on its right.
+/// The gate of the cell at a place, if power goes on from it, or if it is a block, whose Q is read by its step too.
 fn gate_at(sheet: Sheet<'_>, rung: usize, at: usize) -> Option<Gate>
     requires rungs { rung < RUNGS }
     requires places { at < PLACES }
@@ -195,6 +199,7 @@ fn gate_at(sheet: Sheet<'_>, rung: usize, at: usize) -> Option<Gate>
     })
 }
 
+/// The gates of one rung, by columns from the left and in each from the top row.
 #[tactic(auto, unfolding(crate::specs::Gates::gates_of), using(crate::proofs::StepLaws::rung_step))]
 fn rung_gates(alloc: Global, sheet: Sheet<'_>, rung: usize) -> Result<Vec<Gate>, AllocError>
     requires rungs { rung < RUNGS }
@@ -222,7 +227,7 @@ pub(crate) fn gates(alloc: Global, sheet: Sheet<'_>) -> Result<Vec<Vec<Gate>>, A
     Ok(gates)
 }
 
-/// What a cell does that writes a variable, a memory or an instance.
+/// The action of the cell at a place, if it writes a variable, a memory or an instance.
 fn action_at(sheet: Sheet<'_>, rung: usize, at: usize) -> Option<Action>
     requires rungs { rung < RUNGS }
     requires places { at < PLACES }
@@ -250,6 +255,7 @@ fn action_at(sheet: Sheet<'_>, rung: usize, at: usize) -> Option<Action>
     }
 }
 
+/// The actions of one rung, by columns from the left and in each from the top row.
 #[tactic(auto, unfolding(crate::specs::Gates::actions_of), using(crate::proofs::StepLaws::rung_step))]
 fn rung_actions(alloc: Global, sheet: Sheet<'_>, rung: usize) -> Result<Vec<Action>, AllocError>
     requires rungs { rung < RUNGS }
@@ -277,7 +283,7 @@ pub(crate) fn actions(alloc: Global, sheet: Sheet<'_>) -> Result<Vec<Vec<Action>
     Ok(actions)
 }
 
-/// The exit of a rung that has this jump, from a row and a column to a rung.
+/// The exit of a rung with this jump: the place of its left link, and the rung that it goes to.
 fn exit_by(sheet: Sheet<'_>, rung: usize, jump: Option<Jump>) -> Option<Exit>
     requires rungs { rung < RUNGS }
     requires jump { jump ≡ jump_of (drawing_of sheet) rung }
@@ -292,7 +298,7 @@ fn exit_by(sheet: Sheet<'_>, rung: usize, jump: Option<Jump>) -> Option<Exit>
     }
 }
 
-/// The exit of each rung, by its jump.
+/// The exit of each rung, in order; None for a rung without a jump or return.
 pub(crate) fn exits(
     alloc: Global,
     sheet: Sheet<'_>,
@@ -309,7 +315,7 @@ pub(crate) fn exits(
     Ok(exits)
 }
 
-/// The rungs that have a jump.
+/// The rungs that have a jump or return, each with the rung that it goes to.
 pub(crate) fn leaps(
     alloc: Global,
     sheet: Sheet<'_>,

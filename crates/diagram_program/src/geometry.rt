@@ -1,4 +1,4 @@
-//! The geometry of a drawing: how many rungs, rows and columns there are, and where a cell stands in its lines.
+//! The geometry of a drawing: how many rungs, rows and columns there are, and where a cell is in its lines.
 
 ghost use Rattle.std.specs.Prelude.{◌≡◌, ◌<◌, ◌+◌, ◌*◌, ◌-◌, ◌/◌, ◌%◌};
 ghost use Rattle.diagram_program.specs.declared.geometry.TheConstants.{RUNGS, ROWS, COLUMNS, PLACES};

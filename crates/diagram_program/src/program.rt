@@ -1,4 +1,4 @@
-//! The program of a text.
+//! The program of a text: its declarations, its sites, and the lists that scans and looks go through.
 
 ghost use Rattle.std.specs.Prelude.{◌≡◌, ◌<◌, ◌≤◌, IfOk};
 ghost use Rattle.diagram_program.specs.declared.geometry.TheConstants.{RUNGS, ROWS, COLUMNS, PLACES};
@@ -66,14 +66,14 @@ impl Program {
         self.rungs
     }
 
-    /// What the text declares.
+    /// The declarations of the text.
     pub fn decls(&self) -> &Decls
         ensures { result.now ≡ self.now.decls }
     {
         &self.decls
     }
 
-    /// What is at a place.
+    /// What is at a place: its cell, and the joint and the vertical link on its left.
     pub fn site(&self, at: Place) -> Site
         requires { at.rung < self.now.rungs }
         ensures { result ≡ site_at self.now at.rung at.row at.column }
@@ -81,7 +81,7 @@ impl Program {
         self.sites[at.number()]
     }
 
-    /// What is at a place of a rung.
+    /// The cell at a place of a rung.
     pub fn cell(&self, rung: usize, row: usize, column: usize) -> Cell
         requires rungs { rung < self.now.rungs }
         requires rows { row < ROWS }
@@ -101,7 +101,7 @@ impl Program {
         self.sites[Place { rung, row, column }.number()].right_link
     }
 
-    /// The joint on the left of the column.
+    /// The joint on the left of a place.
     pub fn joint(&self, rung: usize, row: usize, column: usize) -> Joint
         requires rungs { rung < self.now.rungs }
         requires rows { row < ROWS }
@@ -150,7 +150,7 @@ impl Program {
         self.memories
     }
 
-    /// Whether a coil writes the variable.
+    /// Whether some coil of the program writes the variable.
     pub fn has_coil(&self, var: usize) -> bool
         ensures { result ≡ has_coil var self.now }
     {
@@ -165,7 +165,7 @@ impl Program {
         &self.gates[rung]
     }
 
-    /// What the rung writes, by column and then row.
+    /// The actions of a rung, which are all that it writes, by column and then row.
     pub fn actions(&self, rung: usize) -> &[Action]
         requires rungs { rung < self.now.rungs }
         ensures { result.now ≡ actions_of self.now rung }
@@ -173,7 +173,7 @@ impl Program {
         &self.actions[rung]
     }
 
-    /// The rung's jump or return, as the links of its gates have it.
+    /// The rung's jump or return as a scan takes it: where its left link is, and the rung that it goes to.
     pub fn exit(&self, rung: usize) -> Option<Exit>
         requires rungs { rung < self.now.rungs }
         ensures { result ≡ exit_of self.now rung }
@@ -181,14 +181,14 @@ impl Program {
         self.exits[rung]
     }
 
-    /// The rungs that have a jump or return.
+    /// The rungs that have a jump or return, each with the rung that it goes to.
     pub fn leaps(&self) -> &[Leap]
         ensures { result.now ≡ leaps_below self.now self.now.rungs }
     {
         &self.leaps
     }
 
-    /// The steps of a look, from rung to rung.
+    /// The steps of a look, one rung after the other.
     pub fn steps(&self) -> &[Step]
         ensures { result.now ≡ steps_below self.now self.now.rungs }
     {

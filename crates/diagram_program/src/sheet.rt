@@ -23,7 +23,7 @@ pub(crate) struct Sheet<'a> {
     pub sites: &'a [Site],
 }
 
-/// What is at a place, nothing past the last.
+/// The site with this number; past the last one it is empty.
 pub(crate) fn site_in(sheet: Sheet<'_>, at: usize) -> Site
     ensures { result ≡ site_in (drawing_of sheet.entry) at }
 {
@@ -39,7 +39,8 @@ pub(crate) fn site_in(sheet: Sheet<'_>, at: usize) -> Site
     }
 }
 
-/// Whether the right link of a row in the column before enters the group of a place's joint.
+/// Whether power from the row `from` of the column before enters the joint on the left of a place: that cell has a right link, its
+/// joint is a wire or a crossing, and vertical links join all rows between.
 #[tactic(auto, using(crate::proofs::JoinLaws::join_step))]
 pub(crate) fn feeds(sheet: Sheet<'_>, at: Place, from: usize) -> bool
     requires { from < ROWS }
@@ -61,7 +62,7 @@ pub(crate) fn feeds(sheet: Sheet<'_>, at: Place, from: usize) -> bool
     all
 }
 
-/// The jump before a place, or else the one that its cell makes.
+/// The jump that was found before a place, or else the one of the cell at the place.
 fn first_jump(before: Option<Jump>, rungs: usize, cell: Cell, at: usize) -> Option<Jump>
     ensures { result ≡ option_or before (option_map (λ t. (at % ROWS, at / ROWS, t)) (goes_to rungs cell)) }
 {
@@ -81,6 +82,7 @@ fn first_jump(before: Option<Jump>, rungs: usize, cell: Cell, at: usize) -> Opti
     }
 }
 
+/// The jump or return of one rung, where it has one.
 #[tactic(auto, using(crate::proofs::JumpLaws::jump_step))]
 fn rung_jump(sheet: Sheet<'_>, rung: usize) -> Option<Jump>
     requires rungs { rung < RUNGS }
@@ -94,7 +96,7 @@ fn rung_jump(sheet: Sheet<'_>, rung: usize) -> Option<Jump>
     jump
 }
 
-/// The jump of each rung.
+/// The jump or return of each rung, where it has one.
 pub(crate) fn jumps(alloc: Global, sheet: Sheet<'_>) -> Result<Vec<Option<Jump>>, AllocError>
     requires rungs { sheet.rungs ≤ RUNGS }
     ensures { IfOk result (λ v. IsOfEach sheet.entry.rungs None (jump_of (drawing_of sheet.entry)) v.items) }

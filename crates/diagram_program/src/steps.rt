@@ -72,6 +72,7 @@ pub(crate) struct Lists<'a> {
     pub exits: &'a [Option<Exit>],
 }
 
+/// The step of a gate. Contacts on variables have kinds of their own, since most gates are these.
 fn gate_step(sheet: Sheet<'_>, rung: usize, gate: Gate) -> Step
     requires rungs { rung < RUNGS }
     ensures { result ≡ gate_step (drawing_of sheet.entry) rung gate }
@@ -113,6 +114,7 @@ fn gate_step(sheet: Sheet<'_>, rung: usize, gate: Gate) -> Step
     })
 }
 
+/// The step of a coil or block, which writes; a look writes no memories, so edge contacts have none.
 fn action_step(rung: u8, action: Action) -> Option<Step>
     ensures { result ≡ action_step rung action action.cell }
 {
@@ -143,7 +145,7 @@ fn action_step(rung: u8, action: Action) -> Option<Step>
     }))
 }
 
-/// Whether a jump begins or ends at the rung.
+/// Whether a jump begins or ends to pass over rungs at this one, so that its guard is another one than before.
 #[tactic(auto, using(crate::proofs::StepLaws::steps_step))]
 fn turns(sheet: Sheet<'_>, jumps: &[Option<Jump>], rung: usize) -> bool
     requires rung { rung < sheet.rungs }
@@ -159,6 +161,7 @@ fn turns(sheet: Sheet<'_>, jumps: &[Option<Jump>], rung: usize) -> bool
     turns
 }
 
+/// The gates of one rung, from the lists of the drawing.
 fn gates_at<'a>(sheet: Sheet<'_>, lists: Lists<'a>, rung: usize) -> &'a [Gate]
     requires rung { rung < sheet.rungs }
     requires lists { AreLists sheet lists }
@@ -167,6 +170,7 @@ fn gates_at<'a>(sheet: Sheet<'_>, lists: Lists<'a>, rung: usize) -> &'a [Gate]
     &lists.gates[rung]
 }
 
+/// The actions of one rung, from the lists of the drawing.
 fn actions_at<'a>(sheet: Sheet<'_>, lists: Lists<'a>, rung: usize) -> &'a [Action]
     requires rung { rung < sheet.rungs }
     requires lists { AreLists sheet lists }
@@ -175,6 +179,7 @@ fn actions_at<'a>(sheet: Sheet<'_>, lists: Lists<'a>, rung: usize) -> &'a [Actio
     &lists.actions[rung]
 }
 
+/// The steps of a rung's gates, in their order.
 fn gate_steps(
     alloc: Global,
     sheet: Sheet<'_>,
@@ -190,6 +195,7 @@ fn gate_steps(
         .collect(alloc)
 }
 
+/// The steps of a rung's actions, in their order.
 fn action_steps(alloc: Global, rung: u8, actions: &[Action]) -> Result<Vec<Step>, AllocError>
     ensures { IfOk result (λ v. v.items ≡ filter_map (λ a. action_step rung a a.cell) actions.now) }
 {
@@ -199,6 +205,7 @@ fn action_steps(alloc: Global, rung: u8, actions: &[Action]) -> Result<Vec<Step>
         .collect(alloc)
 }
 
+/// Adds the step that sets the guard anew, where a jump begins or ends to pass over rungs at this one.
 fn push_turn(steps: &mut Vec<Step>, rung: u8, turns: bool) -> Result<(), AllocError>
     ensures { IfOk result (λ _. steps.new.items ≡ steps.old.items ++ turn_steps rung turns) }
 {
@@ -208,6 +215,7 @@ fn push_turn(steps: &mut Vec<Step>, rung: u8, turns: bool) -> Result<(), AllocEr
     Ok(())
 }
 
+/// Adds the step of a rung's jump or return, where it has one.
 fn push_exit(steps: &mut Vec<Step>, rung: u8, exit: Option<Exit>) -> Result<(), AllocError>
     ensures { IfOk result (λ _. steps.new.items ≡ steps.old.items ++ exit_steps rung exit) }
 {
@@ -263,7 +271,7 @@ fn push_rung(
     Ok(())
 }
 
-/// The steps of all rungs.
+/// The steps of a program, for each rung those of its guard, its gates, its jump and its actions.
 #[tactic(auto, using(crate::proofs::StepLaws::steps_step))]
 pub(crate) fn steps(
     alloc: Global,

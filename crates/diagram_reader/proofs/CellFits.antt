@@ -10,7 +10,7 @@ use Rattle.diagram_declarations.specs.declared.kind.Output.{Output}
 use Rattle.diagram_program.specs.declared.mode.Mode.{Mode}
 use Rattle.diagram_program.specs.declared.mode.CoilMode.{CoilMode}
 use Rattle.diagram_page.specs.declared.form.Form.{Form}
-use Rattle.diagram_page.specs.declared.form.Form.TheVariants.{Empty, Wire, Contact, Coil, Block, Lower, Jump, Return}
+use Rattle.diagram_page.specs.declared.form.Form.TheVariants.{Contact, Coil, Block, Lower, Jump}
 use Rattle.diagram_page.specs.declared.operand.Reference.{Reference}
 use Rattle.diagram_page.specs.Operand.{MayHave}
 use Rattle.diagram_reader.specs.Rules.{wants_name}
@@ -46,20 +46,12 @@ block_fits n decls kind (symbol.Instance i) above target fits = fits
 
 pub cell_fits : (n : ℕ) (decls : Declared) (form : Option Form) (name : Option Reference) (above target : Option ℕ) → ((x : Reference) → name ≡ Some x → SymbolFits decls x.symbol)
     → ((n : ℕ) → above ≡ Some n → n < length decls.instances) → FitsName decls form name → Fits decls (cell_with n form (option_map (λ (x : Reference). x.symbol) name) above target)
-cell_fits n decls None name above target names over suits = tt
-cell_fits n decls (Some Empty) name above target names over suits = tt
-cell_fits n decls (Some Wire) name above target names over suits = tt
-cell_fits n decls (Some (Contact m)) None above target names over suits = tt
 cell_fits n decls (Some (Contact m)) (Some x) above target names over suits = contact_fits n decls m x.symbol above target (names x refl)
-cell_fits n decls (Some (Coil m)) None above target names over suits = tt
 cell_fits n decls (Some (Coil m)) (Some x) above target names over suits = coil_fits n decls m x.symbol above target x.output (names x refl) (suits x refl refl)
-cell_fits n decls (Some (Block kind)) None above target names over suits = tt
 cell_fits n decls (Some (Block kind)) (Some x) above target names over suits = block_fits n decls kind x.symbol above target (names x refl)
-cell_fits n decls (Some (Lower pin linked)) name None target names over suits = tt
 cell_fits n decls (Some (Lower pin linked)) name (Some inst) target names over suits = over inst refl
 cell_fits n decls (Some (Jump label)) name above None names over suits = tt
-cell_fits n decls (Some (Jump label)) name above (Some to) names over suits = tt
-cell_fits n decls (Some Return) name above target names over suits = tt
+cell_fits n decls _ _ _ _ names over suits = tt
 
 -- ---- an edge that has a name has a memory
 
@@ -74,14 +66,8 @@ coil_has decls n m (symbol.Instance i) o above target edge twice = absurd (twice
 
 pub edge_has : (decls : Declared) (n : ℕ) (form : Option Form) (name : Option Reference) (above target : Option ℕ) → is_edge form ≡ true
     → (wants_name form ≡ true → name ≡ None → ⊥) → FitsName decls form name → has_memory (cell_with n form (option_map (λ (x : Reference). x.symbol) name) above target) ≡ true
-edge_has decls n None name above target edge named fits = absurd cc
-edge_has decls n (Some Empty) name above target edge named fits = absurd cc
-edge_has decls n (Some Wire) name above target edge named fits = absurd cc
 edge_has decls n (Some (Contact m)) None above target edge named fits = absurd (named refl refl)
 edge_has decls n (Some (Contact m)) (Some x) above target edge named fits = contact_has n m x.symbol above target edge
 edge_has decls n (Some (Coil m)) None above target edge named fits = absurd (named refl refl)
 edge_has decls n (Some (Coil m)) (Some x) above target edge named fits = coil_has decls n m x.symbol x.output above target edge (fits x refl refl)
-edge_has decls n (Some (Block kind)) name above target edge named fits = absurd cc
-edge_has decls n (Some (Lower pin linked)) name above target edge named fits = absurd cc
-edge_has decls n (Some (Jump label)) name above target edge named fits = absurd cc
-edge_has decls n (Some Return) name above target edge named fits = absurd cc
+edge_has decls n _ name above target edge named fits = absurd cc

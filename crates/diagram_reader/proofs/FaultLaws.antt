@@ -23,15 +23,8 @@ use Rattle.diagram_page.proofs.PageLaws.{page_reads, one_page}
 -- a fault of the declarations
 pub declared_right : {Q : Type 0} (text : List ℕ) (r : VarRule) (line : ℕ) → (r ≢ var_rule.Memory → HasNoDecls text) → BreaksOn r text line
     → ((r ≡ var_rule.Memory) × (line ≡ 0)) ⊎ ((HasNoDecls text × BreaksOn r text line) ⊎ Q)
-declared_right text var_rule.BadByte line none breaks = inr (inl (none (λ e. cc), breaks))
-declared_right text var_rule.BadToken line none breaks = inr (inl (none (λ e. cc), breaks))
-declared_right text var_rule.BadName line none breaks = inr (inl (none (λ e. cc), breaks))
-declared_right text var_rule.Duplicate line none breaks = inr (inl (none (λ e. cc), breaks))
-declared_right text var_rule.DuplicateAddress line none breaks = inr (inl (none (λ e. cc), breaks))
-declared_right text var_rule.BadPreset line none breaks = inr (inl (none (λ e. cc), breaks))
-declared_right text var_rule.TooMany line none breaks = inr (inl (none (λ e. cc), breaks))
-declared_right text var_rule.Unfinished line none breaks = inr (inl (none (λ e. cc), breaks))
 declared_right text var_rule.Memory line none breaks = inl (refl, breaks)
+declared_right text _ line none breaks = inr (inl (none (λ e. cc), breaks))
 
 module _ (text : List ℕ) (declared : Declared) (place : ℕ) (within : place ≤ length text) (read : HasDecls text declared (drop place text)) where
   has_fault : (r : Rule) (rung line : ℕ) → PageBreaks r (page_of declared (drop place text)) rung line

@@ -1,5 +1,5 @@
 -- Power flow in a picture and in its program, and G6.
-use Rattle.std.proofs.Common.{◌≡◌, ℕ, zero, suc, ◌+◌, ◌-◌, ◌*◌, ◌<◌, ◌≤◌, ◌⊎◌, inl, inr, min, max, Bool, true, false, cond, ◌&&◌, ◌||◌, ◌==◌, not, nat_le, List, [], ◌∷◌, ◌++◌, length, replicate, Option, Some, None, refl, sym, ap, subst, ◌∙◌, arith}
+use Rattle.std.proofs.Common.{◌≡◌, ℕ, zero, suc, ◌+◌, ◌-◌, ◌*◌, ◌<◌, ◌≤◌, ◌⊎◌, inl, inr, min, max, Bool, true, false, cond, ◌&&◌, ◌||◌, ◌==◌, not, nat_le, List, [], ◌∷◌, ◌++◌, length, replicate, Option, Some, refl, sym, ap, subst, ◌∙◌, arith}
 use Rattle.std.specs.List.{list_all}
 use Rattle.std.proofs.lemmas.Bool.{cases_lt, ne_eqb, and_parts, or_cases, leb-true, le-leb, eqb-true, true≢false}
 use Rattle.diagram_declarations.specs.Text.{begins_with}
@@ -187,13 +187,8 @@ module _ (page : Page) (d : Drawing) (drawn : IsDrawn page d) where
 
 wants_left : Form → Bool
 wants_left Empty = false
-wants_left Wire = true
-wants_left (Contact mode) = true
-wants_left (Coil mode) = true
-wants_left (Block kind) = true
 wants_left (Lower pin linked) = linked
-wants_left (Jump label) = true
-wants_left Return = true
+wants_left _ = true
 
 dashed_table : Table → Bool
 dashed_table table = list_all (λ e. not (wants_left e.1) || begins_with dash e.0) table
@@ -226,16 +221,14 @@ form_dash chars form (inr h) wants = dashes_first h.0 chars _ h.4 h.5
 form_wants : (n : ℕ) (form : Option Form) (name : Option Symbol) (above target : Option ℕ)
     → has_left_link (cell_with n form name above target) ≡ true → (f : Form) × (form ≡ Some f) × (wants_left f ≡ true)
 unfolding wants_left
-form_wants n None name above target h = absurd (off_on h)
-form_wants n (Some Empty) name above target h = absurd (off_on h)
 form_wants n (Some Wire) name above target h = (Wire, refl, refl)
 form_wants n (Some (Contact mode)) name above target h = (Contact mode, refl, refl)
 form_wants n (Some (Coil mode)) name above target h = (Coil mode, refl, refl)
 form_wants n (Some (Block kind)) name above target h = (Block kind, refl, refl)
-form_wants n (Some (Lower pin linked)) name None target h = absurd (off_on h)
 form_wants n (Some (Lower pin linked)) name (Some inst) target h = (Lower pin linked, refl, h)
 form_wants n (Some (Jump label)) name above target h = (Jump label, refl, refl)
 form_wants n (Some Return) name above target h = (Return, refl, refl)
+form_wants n _ name _ target h = absurd (off_on h)
 
 first_dash : (rung : Lines) (r c : ℕ) → begins_with dash (cell_text rung r c) ≡ true → char_at rung (2 * r + 1) (PITCH * c + 1) ≡ dash
 unfolding text_at

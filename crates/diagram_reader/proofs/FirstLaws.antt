@@ -3,6 +3,7 @@ use Rattle.std.proofs.Common.{◌≡◌, ◌↔◌, inl, inr, ℕ, suc, ◌+◌,
 use Rattle.std.proofs.lemmas.Bool.{cases_lt}
 use Rattle.std.proofs.Math.ListN.{get_or-eq_default}
 use Rattle.std.proofs.lemmas.List.{get_or-replicate, get_or_default, get_or-set_same, get_or-set_other, length-set, length-replicate}
+use Rattle.std.proofs.lemmas.Option.{none-some, same_Some}
 use Rattle.diagram_program.specs.declared.geometry.TheConstants.{RUNGS, ROWS, COLUMNS, PLACES}
 use Rattle.diagram_declarations.specs.Decls.{Declared}
 use Rattle.diagram_page.specs.declared.form.Form.{Form}
@@ -23,12 +24,6 @@ use Rattle.diagram_page.proofs.OverLaws.{over_at}
 use Rattle.diagram_page.proofs.ReadingOrder.{rung_of_place, row_of_place, column_of_place, earlier, less_place}
 
 -- ---- the table
-
-none_some : {A : Type 0} {x : A} → None ≡ Some x → ⊥
-none_some h = cc
-
-same_number : (a b : ℕ) → Some a ≡ Some b → a ≡ b
-same_number a b h = cc
 
 entry_length : (n j : ℕ) (o : Option ℕ) (xs : List (Option ℕ)) → length (noted_at n j o xs) ≡ length xs
 entry_length n j (Some first) xs = refl
@@ -51,9 +46,9 @@ stays Has n inst o other h = record {
 -- one place more, where it is
 begins : (Has : ℕ → ℕ → Type 0) (n inst : ℕ) (o : Option ℕ) → Has n inst → o ≡ None → FirstIn Has n inst o → FirstIn Has (suc n) inst (Some n)
 begins Has n inst o has none h = record {
-  none = λ e m below drawn. none_some (sym e);
+  none = λ e m below drawn. none-some _ (sym e);
   some = λ at e.
-      let here : n ≡ at = same_number n at e in
+      let here : n ≡ at = same_Some n at e in
       (omega (arith, here), subst (λ k. Has k inst) here has, λ m less drawn. h.none none m (omega (arith, here, less)) drawn);
 }
 
@@ -65,14 +60,14 @@ apart Has n inst j xs not_here other h =
 
 step : (Has : ℕ → ℕ → Type 0) (n inst : ℕ) (xs : List (Option ℕ)) (block : Option ℕ) → ((i : ℕ) → (block ≡ Some i) ↔ Has n i) → inst < length xs
     → FirstIn Has n inst (get_or xs inst None) → FirstIn Has (suc n) inst (get_or (noted n block xs) inst None)
-step Has n inst xs None is below h = stays Has n inst (get_or xs inst None) (λ drawn none. none_some ((is inst).1 drawn)) h
+step Has n inst xs None is below h = stays Has n inst (get_or xs inst None) (λ drawn none. none-some _ ((is inst).1 drawn)) h
 step Has n inst xs (Some j) is below h =
     let entry : (d e : Option ℕ) → get_or xs inst d ≡ get_or xs inst e = λ d e. get_or_default xs inst d e below in
-    let drawn_is : Has n inst → j ≡ inst = λ drawn. same_number j inst ((is inst).1 drawn) in
+    let drawn_is : Has n inst → j ≡ inst = λ drawn. same_Some j inst ((is inst).1 drawn) in
     elim (slice_index_or xs j (Some n)) as (λ o. slice_index_or xs j (Some n) ≡ o → FirstIn Has (suc n) inst (get_or (noted_at n j o xs) inst None)) [
       | Some first ↦ λ e.
           stays Has n inst (get_or xs inst None) (λ drawn none.
-          none_some (sym none ∙ entry None (Some n) ∙ ap (λ i. get_or xs i (Some n)) (sym (drawn_is drawn)) ∙ e)) h
+          none-some _ (sym none ∙ entry None (Some n) ∙ ap (λ i. get_or xs i (Some n)) (sym (drawn_is drawn)) ∙ e)) h
       | None ↦ λ e. elim (cases_lt j inst) [
         | inl less ↦ apart Has n inst j xs (λ drawn. omega (arith, drawn_is drawn, less)) (λ same. absurd (omega (arith, same, less))) h
         | inr more ↦ elim (cases_lt inst j) [
@@ -95,7 +90,7 @@ none_noted Has instances xs h = record {
       let is : slice_index_or xs inst None ≡ None = ap (λ z. slice_index_or z inst None) h ∙ get_or-replicate instances inst None None below in
       record {
         none = λ e m less has. absurd (omega (arith, less));
-        some = λ at e. absurd (none_some (sym is ∙ e));
+        some = λ at e. absurd (none-some _ (sym is ∙ e));
       };
 }
 

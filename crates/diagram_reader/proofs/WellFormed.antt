@@ -4,6 +4,7 @@ use Rattle.std.specs.Prelude.{option_map}
 use Rattle.std.proofs.lemmas.Bool.{cases_lt, ltb-true, eqb-false, ne_eqb}
 use Rattle.std.proofs.lemmas.List.Quantifiers.{position-Some}
 use Rattle.std.proofs.lemmas.List.{get_or_past, length-map, take_all}
+use Rattle.std.proofs.lemmas.Option.{none-some, same_Some}
 use Rattle.diagram_program.specs.declared.geometry.TheConstants.{ROWS, COLUMNS, PLACES}
 use Rattle.diagram_program.specs.declared.cell.Cell.{Cell}
 use Rattle.diagram_program.specs.declared.cell.Cell.TheVariants as cell
@@ -38,26 +39,20 @@ use Rattle.diagram_reader.proofs.DrawnCell.{Tells, lower_in, told, is_block}
 use Rattle.diagram_reader.proofs.NumberLaws.{count_more, next_memory, before_more}
 use Rattle.diagram_reader.proofs.SoundRungs.{sound_rung}
 
-none_some : {A : Type 0} {x : A} → None ≡ Some x → ⊥
-none_some h = cc
-
-some_same : (a b : ℕ) → Some a ≡ Some b → a ≡ b
-some_same a b h = cc
-
 -- ---- targets
 later_is : (k t : ℕ) (o : Option ℕ) → later k o ≡ Some t → (k < t) × (o ≡ Some t)
-later_is k t None h = absurd (none_some h)
+later_is k t None h = absurd (none-some _ h)
 later_is k t (Some target) h =
     elim (nat_lt k target) as (λ b. nat_lt k target ≡ b → cond b (Some target) None ≡ Some t → (k < t) × (Some target ≡ Some t)) [
       | true ↦ λ test same.
           let below : k < target = ltb-true k target test in
-          let e : target ≡ t = some_same target t same in
+          let e : target ≡ t = same_Some target t same in
           (subst (λ x. k < x) e below, same)
-      | false ↦ λ test same. absurd (none_some same)
+      | false ↦ λ test same. absurd (none-some _ same)
     ] refl h
 
 target_within : (labels : Labels) (k t : ℕ) (label : Option (List ℕ)) → target_to labels k label ≡ Some t → (k < t) × (t < length labels)
-target_within labels k t None h = absurd (none_some h)
+target_within labels k t None h = absurd (none-some _ h)
 target_within labels k t (Some word) h =
     let l = later_is k t (position (is_named word) labels) h in
     (l.0, (position-Some (is_named word) labels t None l.1).0)
@@ -138,7 +133,7 @@ module _ (page : Page) (d : Drawing) (read : IsDrawn page d) where
             let first : memories_before page i ≡ number = ap (memories_before page) s.at ∙ m.0 in
             let edge : is_edge (get_or page.forms i None) ≡ true = ap (λ n. is_edge (get_or page.forms n None)) s.at ∙ m.1 in
             (below, first, rw edge at (next_memory page i) ∙ ap (λ n. n + 1) first)
-        | inr past ↦ absurd (none_some (ap memory_in (sym (past_end i past)) ∙ h))
+        | inr past ↦ absurd (none-some _ (ap memory_in (sym (past_end i past)) ∙ h))
       ]
 
   one_memory : (number i j : ℕ) → memory_in (cell_in d i) ≡ Some number → memory_in (cell_in d j) ≡ Some number → i ≡ j
@@ -158,7 +153,7 @@ module _ (page : Page) (d : Drawing) (read : IsDrawn page d) where
   stands f empty i number h =
       elim (cases_lt i (PLACES * d.rungs)) [
         | inl below ↦ restated i (λ k r c _ is. ap f (sym is) ∙ h) (cell_is i below)
-        | inr past ↦ absurd (none_some (sym (ap f (past_end i past) ∙ empty) ∙ h))
+        | inr past ↦ absurd (none-some _ (sym (ap f (past_end i past) ∙ empty) ∙ h))
       ]
 
   sound_at : (k : ℕ) → k < d.rungs → IsSoundRung page k
@@ -311,7 +306,7 @@ module _ (page : Page) (d : Drawing) (read : IsDrawn page d) where
   above_is : (k r c inst : ℕ) → instance_above page k r c ≡ Some inst → (1 ≤ r) × (instance_at page k (r - 1) c ≡ Some inst)
   above_is k r c inst h =
       elim (r == 0) as (λ b. (r == 0) ≡ b → cond b None (instance_at page k (r - 1) c) ≡ Some inst → (1 ≤ r) × (instance_at page k (r - 1) c ≡ Some inst)) [
-        | true ↦ λ test same. absurd (none_some same)
+        | true ↦ λ test same. absurd (none-some _ same)
         | false ↦ λ test same.
             let some : 1 ≤ r = elim (cases_lt 0 r) [
               | inl more ↦ omega (arith, more)

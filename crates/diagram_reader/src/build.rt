@@ -22,7 +22,7 @@ use diagram_program::geometry::{PLACES, Place, RUNGS};
 use diagram_program::{Program, Site};
 use std::alloc::{AllocError, Global};
 
-/// The number of the next memory, past a cell of this form.
+/// The number for the next memory, after a cell of this form: edge contacts and edge coils take one.
 fn after_memory(number: usize, form: Option<Form>) -> usize
     requires { number < 2 ^ 32 }
     ensures value { result ≡ number + (if is_edge form then 1 else 0) }
@@ -31,7 +31,7 @@ fn after_memory(number: usize, form: Option<Form>) -> usize
     if is_edge(form) { number + 1 } else { number }
 }
 
-/// What is at each place, by rung, column and row; memories are numbered in this order.
+/// The site at each place, by rung, column and row; memories are numbered in this order.
 fn sites(
     alloc: Global,
     page: PageView<'_, '_>,
@@ -93,7 +93,7 @@ pub(crate) fn read_sites(
     )
 }
 
-/// The program that these declarations and the text after them make.
+/// The program of the declarations and of the drawing after them.
 pub(crate) fn read_drawing(alloc: Global, decls: Decls, text: &[u8]) -> Result<Program, Stop>
     ensures found { IfOk result (λ p. IsDrawn (page_of decls text.now) p) }
     ensures broken { IfErr result (IsBrokenIn (page_of decls text.now)) }

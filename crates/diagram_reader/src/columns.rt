@@ -18,7 +18,7 @@ use diagram_page::{Half, PageView};
 use diagram_program::geometry::{LINES, RUNGS};
 use std::alloc::{AllocError, Global};
 
-/// Which line of its row a line of a rung is.
+/// Which half of its row a line of a rung is: the name line or the wire line.
 fn half_of(line: usize) -> Half
     ensures { half_line (line / 2) result ≡ line }
 {
@@ -44,7 +44,7 @@ fn column_in(page: PageView<'_, '_>, rule: GridRule, rung: usize, line: usize) -
     broken_column(rule, page, rung, at / 2, half_of(at))
 }
 
-/// The same on the page that a text after END_VAR reads as.
+/// The first column in which a rung breaks the rule, on the page that the text after END_VAR is.
 fn column_after(
     alloc: Global,
     decls: &Decls,
@@ -73,6 +73,7 @@ fn column_after(
     Ok(column_in(page, rule, rung, line))
 }
 
+/// How many line ends a text has.
 fn line_feeds(text: &[u8]) -> usize
     ensures value { result ≡ count_by (λ b. b == line_feed) text.now }
     ensures few { result ≤ length text.now }

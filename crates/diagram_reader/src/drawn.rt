@@ -16,7 +16,7 @@ use diagram_page::{Form, PageView};
 use diagram_program::geometry::Place;
 use diagram_program::{Cell, CoilMode, Joint, Mode, Operand, Site};
 
-/// Whether it is a contact or a coil that acts on an edge.
+/// Whether a cell of this form is a contact or a coil that acts on an edge, which needs a memory.
 pub(crate) fn is_edge(form: Option<Form>) -> bool
     ensures { result ≡ is_edge form }
 {
@@ -39,6 +39,8 @@ pub(crate) fn is_edge(form: Option<Form>) -> bool
     }
 }
 
+/// The cell of a contact under the name of a variable or an instance; the number of its place is its memory if it is an edge
+/// contact.
 fn contact_on(number: usize, mode: Mode, symbol: Symbol) -> Cell
     ensures { result ≡ cell_with number (Some (form.Contact mode)) (Some symbol) None None }
 {
@@ -58,6 +60,7 @@ fn contact_on(number: usize, mode: Mode, symbol: Symbol) -> Cell
     }
 }
 
+/// The cell of a coil under the name of a variable; the number of its place is its memory if it is an edge coil.
 fn coil_on(number: usize, mode: CoilMode, symbol: Symbol) -> Cell
     ensures { result ≡ cell_with number (Some (form.Coil mode)) (Some symbol) None None }
 {
@@ -74,6 +77,7 @@ fn coil_on(number: usize, mode: CoilMode, symbol: Symbol) -> Cell
     }
 }
 
+/// The cell of a block under the name of an instance.
 fn block_on(symbol: Symbol) -> Cell
     ensures { (kind : BlockKind) → result ≡ cell_with 0 (Some (form.Block kind)) (Some symbol) None None }
 {
@@ -83,7 +87,7 @@ fn block_on(symbol: Symbol) -> Cell
     }
 }
 
-/// The instance of the block in the row above.
+/// The instance whose block is in the row above, of which a lower cell is a part.
 fn instance_above(page: PageView<'_, '_>, at: Place) -> Option<usize>
     requires { at.rung < length page.parts.now }
     ensures { result ≡ (if at.row == 0 then None else instance_at (seen page.entry) at.rung (at.row - 1) at.column) }

@@ -9,7 +9,7 @@ use diagram_page::picture::{char_at, joint, same_group};
 use diagram_page::{Form, PageView};
 use diagram_program::geometry::{CELL, PITCH, Place, ROWS};
 
-/// Whether a cell has a right link.
+/// Whether power can leave a cell on its right.
 pub fn right_link(page: PageView<'_, '_>, at: Place) -> bool
     requires { at.rung < length page.parts.now }
     ensures { result ≡ right_link (seen page.entry) at.rung at.row at.column }
@@ -27,6 +27,7 @@ pub fn right_link(page: PageView<'_, '_>, at: Place) -> bool
     }
 }
 
+/// Whether the cell on the left of a joint passes its right link on into it: it has one, and the joint is a wire or a crossing.
 fn enters(page: PageView<'_, '_>, at: Place) -> bool
     requires { at.rung < length page.parts.now }
     ensures { result ≡ enters (seen page.entry) at.rung at.row at.column }
@@ -35,7 +36,7 @@ fn enters(page: PageView<'_, '_>, at: Place) -> bool
     right_link(page, at.before()) && (joint == b'-' || joint == b'+')
 }
 
-/// Whether a right link enters the group of the joint on the left of a cell.
+/// Whether power can enter the group of joints on the left of a cell from the column before.
 fn is_fed(page: PageView<'_, '_>, at: Place) -> bool
     requires { at.rung < length page.parts.now }
     ensures { IsTrue result ↔ IsFed (seen page.entry) at.rung at.row at.column }
@@ -50,7 +51,7 @@ fn is_fed(page: PageView<'_, '_>, at: Place) -> bool
     false
 }
 
-/// Whether a cell wants power on its left where none can come.
+/// Whether a cell that needs power on its left can get none from the column before.
 pub(crate) fn is_unfed(page: PageView<'_, '_>, at: Place) -> bool
     requires { at.rung < length page.parts.now }
     ensures { IsTrue result ↔ IsUnfed (seen page.entry) at.rung at.row at.column }

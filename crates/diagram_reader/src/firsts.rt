@@ -10,6 +10,7 @@ use diagram_page::{Form, NameOver, Reference};
 use diagram_program::geometry::{PLACES, Place};
 use std::alloc::{AllocError, Global};
 
+/// The variable or instance that is named over the place of this number.
 fn name_in(overs: &[NameOver], at: usize) -> Option<Reference>
     ensures { result ≡ (slice_index_or overs.now at (record { written = false; name = None })).name }
 {
@@ -20,13 +21,14 @@ fn name_in(overs: &[NameOver], at: usize) -> Option<Reference>
     }
 }
 
+/// The form of the cell at the place of this number.
 fn form_in(forms: &[Option<Form>], at: usize) -> Option<Form>
     ensures { result ≡ slice_index_or forms.now at None }
 {
     if at < forms.len() { forms[at] } else { None }
 }
 
-/// The instance of which a place has a block.
+/// The instance whose block is at a place.
 fn block_in(decls: &Decls, forms: &[Option<Form>], overs: &[NameOver], n: usize) -> Option<usize>
     requires { n < PLACES * RUNGS }
     ensures { (inst : ℕ) → (result ≡ Some inst) ↔ HasBlock decls.now forms.now overs.now n inst }
@@ -35,6 +37,7 @@ fn block_in(decls: &Decls, forms: &[Option<Form>], overs: &[NameOver], n: usize)
     block_drawn(decls, form_in(forms, at), name_in(overs, at))
 }
 
+/// Keeps this place as that of an instance's first block, unless one was found before.
 fn note(firsts: &mut Vec<Option<usize>>, n: usize, inst: Option<usize>)
     ensures { firsts.new.items ≡ noted n inst firsts.old.items }
 {
@@ -45,7 +48,7 @@ fn note(firsts: &mut Vec<Option<usize>>, n: usize, inst: Option<usize>)
     }
 }
 
-/// The place where each instance is drawn first in so many rungs, by its number.
+/// The place where each instance is drawn first in the first `rungs` rungs, by its number.
 ///
 /// # Errors
 ///
@@ -67,7 +70,7 @@ pub fn firsts(
     Ok(firsts)
 }
 
-/// The place where an instance is drawn first.
+/// The place where an instance is drawn first, by its number in the order of reading.
 pub(crate) fn first_of(firsts: &[Option<usize>], inst: usize) -> Option<usize>
     ensures { result ≡ slice_index_or firsts.now inst None }
 {
@@ -78,7 +81,7 @@ pub(crate) fn first_of(firsts: &[Option<usize>], inst: usize) -> Option<usize>
     }
 }
 
-/// Whether it comes before this place.
+/// Whether a place is before another one in the order of reading.
 pub(crate) fn is_before(first: Option<usize>, here: usize) -> bool
     ensures { IsTrue result ↔ IsBefore first here }
 {

@@ -14,13 +14,14 @@ use diagram_declarations::Name;
 use diagram_page::gap::{is_blank_line, is_named, label_in};
 use diagram_page::picture::line_at;
 
-/// Whether an earlier rung has the label.
+/// Whether an earlier rung already has this label.
 fn is_taken(labels: &[Option<Name>], word: &Name) -> bool
     ensures { result ≡ list_any (is_named word.now) labels.now }
 {
     labels.iter().any(|label| is_named(label, word))
 }
 
+/// The label of a rung, where a line may add one: the first stays.
 fn first_of(before: &Option<Name>, label: Option<Name>) -> Option<Name>
     ensures { result ≡ option_or before.now label }
 {

@@ -18,7 +18,7 @@ pub enum GridRule {
     /// G3: each cell has one of the forms.
     #[error("G3: this is no form of a cell")]
     BadCell,
-    /// G4: a joint has the characters that may stand there, and they fit the cells beside it.
+    /// G4: a joint has the characters that may be there, and they fit the cells beside it.
     #[error("G4: this is no joint")]
     BadJoint,
     /// G5: a vertical link ends at a `+` or a bar above and below.
@@ -80,6 +80,7 @@ pub enum Stop {
 impl From<AllocError> for Stop {
     ghost from_gives = { λ _ e. e ≡ NoMemory };
 
+    /// Reading needed memory that there isn't.
     fn from(_error: AllocError) -> Stop {
         Stop::NoMemory
     }
@@ -88,6 +89,7 @@ impl From<AllocError> for Stop {
 impl<T: Drop> From<AllocFailed<T>> for Stop {
     ghost from_gives = { λ _ e. e ≡ NoMemory };
 
+    /// The same, where the value that found no room is handed back; it is dropped.
     fn from(_error: AllocFailed<T>) -> Stop {
         Stop::NoMemory
     }

@@ -1,8 +1,9 @@
-//! The rules of a whole page.
+//! The rules of a whole page: its parts in order, its labels, and where its jumps lead.
 
-ghost use Rattle.std.specs.Prelude.{◌≡◌, ◌≤◌, ◌<◌, ◌+◌, ◌↔◌, ℕ, List, length, map, take, position, Some, None, IsTrue, IfSome, IfNone, IfOk, IfErr};
+ghost use Rattle.std.specs.Prelude.{◌≡◌, ◌≤◌, ◌<◌, ◌+◌, ◌↔◌, ℕ, List, length, map, option_and_then, take, position, Some, None, IsTrue, IfSome, IfNone, IfOk, IfErr};
 ghost use Rattle.diagram_program.specs.declared.geometry.TheConstants.{RUNGS, LINES};
 ghost use Rattle.diagram_page.specs.declared.form.Form.TheVariants.{Jump};
+ghost use Rattle.diagram_page.specs.Form.{jump_in};
 ghost use Rattle.diagram_page.specs.Gap.{is_named};
 ghost use Rattle.diagram_page.specs.Lines.{part_in};
 ghost use Rattle.diagram_page.specs.Seen.{seen};
@@ -100,51 +101,41 @@ fn broken_end(page: PageView<'_, '_>, labels: &[Option<Name>]) -> Option<(Rule, 
     }
 }
 
+/// The first rung with this label.
 fn position_of(labels: &[Option<Name>], word: &Name) -> Option<usize>
     ensures { result ≡ position (is_named word.now) labels.now }
 {
     labels.iter().position(|label| is_named(label, word))
 }
 
+/// The label of a jump.
+fn jump_on(form: &Option<Form>) -> Option<Name>
+    ensures { result ≡ option_and_then jump_in form.now }
+{
+    match form {
+        Some(form) => form.jump(),
+        None => None,
+    }
+}
+
 /// The rung that a cell of the rung k leads to by a label.
 pub fn target_of(labels: &[Option<Name>], rung: usize, form: &Option<Form>) -> Option<usize>
     ensures { result ≡ target_of labels.now rung form.now }
 {
-    match form {
-        Some(Form::Jump(label)) => match position_of(labels, label) {
+    match jump_on(form) {
+        Some(label) => match position_of(labels, &label) {
             Some(target) if rung < target => Some(target),
             Some(_) | None => None,
         },
-        None
-        | Some(
-            Form::Empty
-            | Form::Wire
-            | Form::Contact(_)
-            | Form::Coil(_)
-            | Form::Block(_)
-            | Form::Lower(_, _)
-            | Form::Return,
-        ) => None,
+        None => None,
     }
 }
 
-/// Whether it is a jump without a target.
+/// Whether a cell is a jump to a label that no later rung has.
 fn leads_nowhere(labels: &[Option<Name>], rung: usize, form: &Option<Form>) -> bool
     ensures { IsTrue result ↔ ((label : List ℕ) × (form.now ≡ Some (Jump label)) × (target_of labels.now rung form.now ≡ None)) }
 {
-    match form {
-        Some(Form::Jump(_)) => target_of(labels, rung, form).is_none(),
-        None
-        | Some(
-            Form::Empty
-            | Form::Wire
-            | Form::Contact(_)
-            | Form::Coil(_)
-            | Form::Block(_)
-            | Form::Lower(_, _)
-            | Form::Return,
-        ) => false,
-    }
+    jump_on(form).is_some() && target_of(labels, rung, form).is_none()
 }
 
 /// The first line of the rung where a jump has no target.

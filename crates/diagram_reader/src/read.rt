@@ -17,7 +17,7 @@ use diagram_declarations::{VarFault, VarRule, read_decls};
 use diagram_program::Program;
 use std::alloc::Global;
 
-/// The number of a line behind a text, whose own are counted from 0.
+/// The number of a line that is counted from the end of a text, whose own lines are counted before it.
 fn line_behind(text: &[u8], line: usize) -> usize
     requires few { length text.now + line + 1 < 2 ^ 64 }
     ensures { result ≡ line_feeds text.now + line + 1 }
@@ -58,6 +58,7 @@ pub(crate) fn fault_of(text: &[u8], place: usize, stop: Stop) -> GridFault
     }
 }
 
+/// The text from a place on.
 pub(crate) fn behind(text: &[u8], place: usize) -> &[u8]
     requires { place ≤ length text.now }
     ensures { result.now ≡ drop place text.now }

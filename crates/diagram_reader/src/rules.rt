@@ -26,7 +26,7 @@ use diagram_page::picture::{char_at, half_line, joint};
 use diagram_page::{Form, Half, PageView};
 use diagram_program::geometry::{COLUMNS, PITCH, Place, ROWS};
 
-/// Whether what stands at a joint's place, or at the right rail, may not stand there.
+/// Whether the character at a joint's place, or at the right rail, is one that can't be there.
 fn is_odd_joint(page: PageView<'_, '_>, rung: usize, row: usize, half: Half, column: usize) -> bool
     requires rungs { rung < length page.parts.now }
     requires few { rung < RUNGS }
@@ -59,13 +59,14 @@ fn is_odd_joint(page: PageView<'_, '_>, rung: usize, row: usize, half: Half, col
     }
 }
 
+/// Whether a character stands for a joint that connects rows: `|` or `+`.
 fn is_branch(b: u8) -> bool
     ensures { result ≡ is_upright b }
 {
     b == b'|' || b == b'+'
 }
 
-/// Whether a bar on the name line of the row has a loose end.
+/// Whether a bar on the name line of a row lacks a branch above it or one below it, which it would join.
 fn is_loose(page: PageView<'_, '_>, at: Place) -> bool
     requires { at.rung < length page.parts.now }
     ensures { IsTrue result ↔ CellBreaks rule.BrokenVertical half.Name (seen page.entry) at.rung at.row at.column }
@@ -78,6 +79,7 @@ fn is_loose(page: PageView<'_, '_>, at: Place) -> bool
             || !is_branch(joint(lines, at.row, at.column)))
 }
 
+/// Whether a cell of this form needs a name over it: contacts, coils and blocks.
 fn wants_name(form: Option<Form>) -> bool
     ensures { result ≡ wants_name form }
 {
@@ -88,6 +90,7 @@ fn wants_name(form: Option<Form>) -> bool
     }
 }
 
+/// Whether a contact, coil or block has nothing written over it.
 fn lacks_name(page: PageView<'_, '_>, at: Place) -> bool
     requires { at.rung < length page.parts.now }
     ensures { IsTrue result ↔ CellBreaks rule.NameMissing half.Name (seen page.entry) at.rung at.row at.column }
@@ -95,6 +98,7 @@ fn lacks_name(page: PageView<'_, '_>, at: Place) -> bool
     wants_name(form_at(page, at)) && !is_written_over(page, at)
 }
 
+/// Whether something is written over a cell that takes no name, as a wire.
 fn has_idle_text(page: PageView<'_, '_>, at: Place) -> bool
     requires { at.rung < length page.parts.now }
     ensures { IsTrue result ↔ CellBreaks rule.NameWithoutSymbol half.Name (seen page.entry) at.rung at.row at.column }
@@ -102,6 +106,7 @@ fn has_idle_text(page: PageView<'_, '_>, at: Place) -> bool
     !wants_name(form_at(page, at)) && is_written_over(page, at)
 }
 
+/// Whether the name over a contact, coil or block isn't declared.
 fn is_undeclared(page: PageView<'_, '_>, at: Place) -> bool
     requires { at.rung < length page.parts.now }
     ensures { IsTrue result ↔ CellBreaks rule.Undeclared half.Name (seen page.entry) at.rung at.row at.column }
@@ -109,6 +114,7 @@ fn is_undeclared(page: PageView<'_, '_>, at: Place) -> bool
     wants_name(form_at(page, at)) && is_written_over(page, at) && name_over(page, at).is_none()
 }
 
+/// Whether the name over a cell is one that the cell cannot have, as that of an input over a coil.
 fn has_odd_name(page: PageView<'_, '_>, at: Place) -> bool
     requires { at.rung < length page.parts.now }
     ensures { IsTrue result ↔ CellBreaks rule.WrongKind half.Name (seen page.entry) at.rung at.row at.column }
@@ -116,25 +122,20 @@ fn has_odd_name(page: PageView<'_, '_>, at: Place) -> bool
     wants_name(form_at(page, at)) && is_odd(page.decls, form_at(page, at), name_over(page, at))
 }
 
-/// Whether it is the lower cell of this input.
+/// Whether a cell is the lower cell of a block with this second input.
 fn is_lower_with(pin: Pin, form: Option<Form>) -> bool
     ensures { IsTrue result ↔ IsLowerWith pin form }
 {
-    match form {
-        Some(Form::Lower(other, _)) => other == pin,
-        None
-        | Some(
-            Form::Empty
-            | Form::Wire
-            | Form::Contact(_)
-            | Form::Coil(_)
-            | Form::Block(_)
-            | Form::Jump(_)
-            | Form::Return,
-        ) => false,
+    let Some(form) = form else {
+        return false;
+    };
+    match form.lower() {
+        Some(other) => other == pin,
+        None => false,
     }
 }
 
+/// Whether a block of this kind has this pin for its second input.
 fn has_second(kind: BlockKind, pin: Pin) -> bool
     ensures { IsTrue result ↔ ((traits_of kind).second_input ≡ Some pin) }
 {
@@ -144,22 +145,16 @@ fn has_second(kind: BlockKind, pin: Pin) -> bool
     }
 }
 
-/// Whether it is a block with this second input.
+/// Whether a cell is a block with this second input.
 fn is_block_with(pin: Pin, form: Option<Form>) -> bool
     ensures { IsTrue result ↔ IsBlockWith pin form }
 {
-    match form {
-        Some(Form::Block(kind)) => has_second(kind, pin),
-        None
-        | Some(
-            Form::Empty
-            | Form::Wire
-            | Form::Contact(_)
-            | Form::Coil(_)
-            | Form::Lower(_, _)
-            | Form::Jump(_)
-            | Form::Return,
-        ) => false,
+    let Some(form) = form else {
+        return false;
+    };
+    match form.block() {
+        Some(kind) => has_second(kind, pin),
+        None => false,
     }
 }
 
@@ -179,6 +174,7 @@ fn lacks_block(page: PageView<'_, '_>, pin: Pin, at: Place) -> bool
     at.row == 0 || !is_block_with(pin, form_at(page, at.in_row(at.row - 1)))
 }
 
+/// Whether a block lacks the cell below it with its second input, or such a cell lacks the block above it.
 fn is_torn(page: PageView<'_, '_>, at: Place) -> bool
     requires { at.rung < length page.parts.now }
     ensures { IsTrue result ↔ IsTorn (seen page.entry) at.rung at.row at.column }
@@ -201,7 +197,7 @@ fn is_torn(page: PageView<'_, '_>, at: Place) -> bool
     }
 }
 
-/// Whether a block before the place is the instance.
+/// Whether an earlier place has a block of the instance.
 fn is_drawn_before(page: PageView<'_, '_>, inst: usize, at: Place) -> bool
     requires { at.rung < length page.parts.now }
     ensures { IsTrue result ↔ IsDrawnBefore (seen page.entry) inst at.rung at.row at.column }
@@ -209,7 +205,7 @@ fn is_drawn_before(page: PageView<'_, '_>, inst: usize, at: Place) -> bool
     is_before(first_of(page.firsts, inst), at.reading_number())
 }
 
-/// The instance of which there is a block at the place.
+/// The instance whose block is at the place.
 fn drawn_at(page: PageView<'_, '_>, at: Place) -> Option<usize>
     requires { at.rung < length page.parts.now }
     ensures { (inst : ℕ) → (result ≡ Some inst) ↔ IsDrawnAt (seen page.entry) inst at.rung at.row at.column }
@@ -217,6 +213,7 @@ fn drawn_at(page: PageView<'_, '_>, at: Place) -> Option<usize>
     block_drawn(page.decls, form_at(page, at), name_over(page, at))
 }
 
+/// Whether the block at a place is that of an instance whose block is drawn before.
 fn is_drawn_twice(page: PageView<'_, '_>, at: Place) -> bool
     requires { at.rung < length page.parts.now }
     ensures { IsTrue result ↔ CellBreaks rule.DrawnTwice half.Name (seen page.entry) at.rung at.row at.column }
@@ -227,6 +224,7 @@ fn is_drawn_twice(page: PageView<'_, '_>, at: Place) -> bool
     }
 }
 
+/// Whether a cell of this form leaves its rung: a jump or a return.
 fn leaps(form: Option<Form>) -> bool
     ensures { result ≡ leaps form }
 {
@@ -244,6 +242,7 @@ fn leaps(form: Option<Form>) -> bool
     }
 }
 
+/// Whether a jump or return comes after another one of its rung, in the order of reading.
 fn is_second_jump(page: PageView<'_, '_>, at: Place) -> bool
     requires { at.rung < length page.parts.now }
     ensures { IsTrue result ↔ CellBreaks rule.TwoJumps half.Wire (seen page.entry) at.rung at.row at.column }
@@ -264,7 +263,7 @@ fn is_second_jump(page: PageView<'_, '_>, at: Place) -> bool
     false
 }
 
-/// Whether the cell at the place breaks the rule on its wire line.
+/// Whether a place breaks this rule on the wire line of its row, which has the cells.
 fn wire_breaks(rule: GridRule, page: PageView<'_, '_>, at: Place) -> bool
     requires { at.rung < length page.parts.now }
     ensures { IsTrue result ↔ CellBreaks rule half.Wire (seen page.entry) at.rung at.row at.column }
@@ -288,7 +287,7 @@ fn wire_breaks(rule: GridRule, page: PageView<'_, '_>, at: Place) -> bool
     }
 }
 
-/// Whether what is over the cell at the place, or the bar on its left, breaks the rule on the name line.
+/// Whether a place breaks this rule on the name line of its row, which has the names over the cells and the bars between rows.
 fn name_breaks(rule: GridRule, page: PageView<'_, '_>, at: Place) -> bool
     requires { at.rung < length page.parts.now }
     ensures { IsTrue result ↔ CellBreaks rule half.Name (seen page.entry) at.rung at.row at.column }
@@ -312,7 +311,7 @@ fn name_breaks(rule: GridRule, page: PageView<'_, '_>, at: Place) -> bool
     }
 }
 
-/// Whether the rule is broken at the place.
+/// Whether a place breaks this rule on this line of its row.
 fn breaks(
     rule: GridRule,
     page: PageView<'_, '_>,
@@ -363,7 +362,7 @@ pub(crate) fn broken_column(
     None
 }
 
-/// Whether the rule is broken on this line of a row.
+/// Whether some place of a row breaks this rule on this line of it.
 fn is_broken_along(
     rule: GridRule,
     page: PageView<'_, '_>,
@@ -413,6 +412,7 @@ const ORDER: [GridRule; 11] = [
     GridRule::TwoJumps,
 ];
 
+/// The first rule of several that a rung breaks, and the first line where it does.
 fn first_broken(
     mut rules: &[GridRule],
     page: PageView<'_, '_>,
@@ -433,7 +433,7 @@ fn first_broken(
     None
 }
 
-/// The first rule of places that the rung breaks, and its line.
+/// The first rule about places that a rung breaks, and its line.
 pub(crate) fn broken_place(page: PageView<'_, '_>, rung: usize) -> Option<(GridRule, usize)>
     requires rungs { rung < length page.parts.now }
     requires few { rung < RUNGS }

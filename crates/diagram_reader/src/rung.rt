@@ -1,4 +1,4 @@
-//! The rules of one rung.
+//! The rules of one rung: its characters, its size, and then those of its places.
 
 ghost use Rattle.std.specs.Prelude.{◌≡◌, ◌<◌, ◌+◌, ℕ, length, map, IfSome, IfNone, [], true, drop, not, nat_le, ◌&&◌};
 ghost use Rattle.std.specs.List.{list_any};
@@ -19,12 +19,14 @@ use diagram_program::geometry::{LINES, RAIL};
 /// The first place past the right rail.
 const PAST_RAIL: usize = RAIL + 1;
 
+/// Whether a line has a byte that isn't printable ASCII.
 fn is_dirty(line: &[u8]) -> bool
     ensures { result ≡ list_any (λ b. not (nat_le space b && nat_le b 126)) line.now }
 {
     line.iter().any(|b| !(b' ' <= *b && *b <= b'~'))
 }
 
+/// What is left of a line from a place on, and nothing where it is shorter.
 fn past(line: &[u8], place: usize) -> &[u8]
     ensures { result.now ≡ drop place line.now }
 {
@@ -35,6 +37,7 @@ fn past(line: &[u8], place: usize) -> &[u8]
     }
 }
 
+/// The first line of a rung with a byte that isn't printable ASCII.
 fn dirty_line(lines: &[&[u8]]) -> Option<usize>
     ensures some { IfSome result (λ line. (line < length lines.now) × (is_dirty_at (map (λ l. l.now) lines.now) line ≡ true)) }
     ensures none { IfNone result ((line : ℕ) → line < length lines.now → is_dirty_at (map (λ l. l.now) lines.now) line ≡ true → ⊥) }
@@ -47,6 +50,7 @@ fn dirty_line(lines: &[&[u8]]) -> Option<usize>
     None
 }
 
+/// The first line of a rung with text past the right rail.
 fn wide_line(lines: &[&[u8]]) -> Option<usize>
     ensures some { IfSome result (λ line. (line < length lines.now) × (is_wide_at (map (λ l. l.now) lines.now) line ≡ true)) }
     ensures none { IfNone result ((line : ℕ) → line < length lines.now → is_wide_at (map (λ l. l.now) lines.now) line ≡ true → ⊥) }

@@ -43,7 +43,7 @@ impl TextBuffer {
         }
     }
 
-    /// Writes all that the buffer holds.
+    /// Writes all that the buffer holds, which is empty then.
     ///
     /// # Errors
     ///
@@ -57,7 +57,7 @@ impl TextBuffer {
         put(writer, &self.bytes[..used])
     }
 
-    /// Takes a piece that fits.
+    /// Copies a piece that fits into the buffer.
     fn take(&mut self, piece: &[u8])
         requires { length self.old + length piece.now ≤ BLOCK }
         ensures { self.new ≡ self.old ++ piece.now }

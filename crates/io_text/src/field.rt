@@ -47,7 +47,7 @@ pub fn read_signed(field: &[u8]) -> Option<i16>
     }
 }
 
-/// The field of a bit.
+/// A bit as a field: `1` for ON and `0` for OFF.
 pub fn bit_field(value: bool) -> &'static [u8]
     ensures { result.now ≡ bit_text value }
 {

@@ -8,7 +8,7 @@ use crate::buffer::TextBuffer;
 use crate::fault::WriteFault;
 use crate::sink::Sink;
 
-/// Adds a comma and a field.
+/// Adds one more field of a record, after a comma.
 ///
 /// # Errors
 ///
@@ -24,6 +24,7 @@ pub fn add_field<W: Sink>(
     buffer.add(field, writer)
 }
 
+/// Adds all fields but the first of a record, a comma before each.
 fn add_fields<W: Sink>(
     buffer: &mut TextBuffer,
     fields: &[&[u8]],
@@ -37,7 +38,7 @@ fn add_fields<W: Sink>(
     Ok(())
 }
 
-/// Adds the line of a record.
+/// Adds a record as a line: its fields with commas between them, and a line feed.
 ///
 /// # Errors
 ///

@@ -37,7 +37,7 @@ pub fn put_pieces<W: Sink>(writer: &mut W, pieces: &[Piece<'_>]) -> Result<(), W
     buffer.flush(writer)
 }
 
-/// Adds the pieces one after the other.
+/// Adds the texts of the pieces to a buffer, one after the other.
 ///
 /// # Errors
 ///
@@ -55,6 +55,7 @@ pub fn add_pieces<W: Sink>(
     Ok(())
 }
 
+/// Adds the text of one piece to a buffer.
 fn add_piece<W: Sink>(
     buffer: &mut TextBuffer,
     piece: Piece<'_>,
@@ -71,6 +72,7 @@ fn add_piece<W: Sink>(
     }
 }
 
+/// Adds a number in decimal.
 fn add_number<W: Sink>(
     buffer: &mut TextBuffer,
     number: u64,
@@ -82,6 +84,7 @@ fn add_number<W: Sink>(
     buffer.add(digits.format(number).as_bytes(), writer)
 }
 
+/// Adds a number in decimal, a minus sign before it where it is negative.
 fn add_signed<W: Sink>(
     buffer: &mut TextBuffer,
     number: i16,

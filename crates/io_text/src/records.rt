@@ -38,7 +38,7 @@ pub fn next(records: &mut Records<'_>, row: &mut ByteRecord) -> Result<bool, All
     }
 }
 
-// Over a text in memory, a flexible reader of bytes fails only when out of memory.
+/// The fault of the reader over a text in memory: a flexible reader of bytes fails there only when out of memory.
 fn refused(_error: &csv::Error) -> AllocError {
     AllocError
 }

@@ -37,7 +37,7 @@ pub struct CountedWriter<W: Write> {
 impl<W: Write> CountedWriter<W> {
     ghost use Rattle.io_text.specs.CountedWriter.{writing_log};
 
-    /// The writer, of which no call was counted yet.
+    /// A counted writer, before its first call.
     pub fn new(inner: W) -> CountedWriter<W>
         ensures contents { (writing_log W.contents result).contents ≡ W.contents inner }
         ensures calls { (writing_log W.contents result).tally.calls ≡ 0 }
@@ -63,6 +63,7 @@ impl<W: Write> Sink for CountedWriter<W> {
 
     ghost log = { writing_log W.contents };
 
+    /// Hands a piece to the inner writer and counts the call. A writer that takes none of a piece has failed.
     fn write(&mut self, piece: &[u8]) -> Result<usize, WriteFailed> {
         if !self.tally.has_next() {
             self.tally.fail();

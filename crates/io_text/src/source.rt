@@ -35,7 +35,7 @@ pub struct CountedReader<R: Read> {
 impl<R: Read> CountedReader<R> {
     ghost use Rattle.io_text.specs.CountedReader.{reading_log};
 
-    /// The reader, of which no call was counted yet.
+    /// A counted reader, before its first call.
     pub fn new(inner: R) -> CountedReader<R>
         ensures remaining { (reading_log R.remaining result).remaining ≡ R.remaining inner }
         ensures calls { (reading_log R.remaining result).tally.calls ≡ 0 }
@@ -61,6 +61,7 @@ impl<R: Read> Source for CountedReader<R> {
 
     ghost log = { reading_log R.remaining };
 
+    /// Asks the inner reader for bytes and counts the call.
     fn read(&mut self, buf: &mut [u8]) -> Result<usize, ReadFailed> {
         if !self.tally.has_next() {
             self.tally.fail();

@@ -15,12 +15,14 @@ fn fault_of(kind: ErrorKind) -> (ToolFault, u8) {
     }
 }
 
+/// Writes the line of a fault before there is a request, and returns the status.
 fn report(rt: &HostRuntime, kind: ErrorKind) -> u8 {
     let (fault, status) = fault_of(kind);
     let _ = write_fault(&fault, &mut CountedWriter::new(rt.stderr()));
     status
 }
 
+/// Collects the arguments and runs the program on them.
 fn main(rt: HostRuntime) -> ExitCode {
     let args = match env::args(&rt) {
         Ok(args) => args,

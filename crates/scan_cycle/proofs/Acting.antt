@@ -1,11 +1,10 @@
 -- Along the actions of a rung the effects over truth values are those of all its places.
-use Rattle.std.proofs.Common.{◌≡◌, ℕ, ◌<◌, ◌≤◌, Bool, true, false, cond, List, [], ◌∷◌, ◌++◌, zero, suc, refl, sym, ap, ap₂, subst, ◌∙◌, arith, All, Some, None, inl, inr}
-use Rattle.std.proofs.lemmas.Bool.{cases_Bool}
+use Rattle.std.proofs.Common.{◌≡◌, ℕ, ◌<◌, ◌≤◌, Bool, false, List, [], ◌∷◌, ◌++◌, zero, suc, refl, sym, ap, ap₂, subst, ◌∙◌, arith, All, Some, inl, inr}
+use Rattle.std.proofs.lemmas.Bool.{cases_Bool, cond-true, cond-false}
 use Rattle.std.proofs.lemmas.List.Elements.{All-append, All-nil}
-use Rattle.std.proofs.lemmas.Grind.{common_steps}
 use Rattle.diagram_program.specs.declared.geometry.TheConstants.{PLACES}
 use Rattle.diagram_program.specs.declared.cell.Cell.{Cell}
-use Rattle.diagram_program.specs.declared.cell.Cell.TheVariants.{Empty, Wire, Contact, Coil, Block, Lower, Jump, Return}
+use Rattle.diagram_program.specs.declared.cell.Cell.TheVariants.{Contact, Coil, Block}
 use Rattle.diagram_program.specs.declared.gates.Action.{Action}
 use Rattle.diagram_program.specs.Program.{Drawing, cell_of}
 use Rattle.diagram_program.specs.Gates.{left_of, below_of, acts, action_at, actions_before, actions_of}
@@ -15,28 +14,17 @@ use Rattle.scan_cycle.specs.Rung.{changed, changes, Held, link, second, frame_of
 use Rattle.scan_cycle.specs.Programs.{diagram_of}
 use Rattle.scan_cycle.specs.Gating.{IsPlaced, among, changes_of, AreLinks}
 use Rattle.scan_cycle.proofs.Feeders.{cell_is}
-use Rattle.scan_cycle.proofs.GateLaws.{left_inside, below_inside}
-
-pub cond_true : {A : Type 0} (b : Bool) (x y : A) → b ≡ true → cond b x y ≡ x
-cond_true true x y h = refl
-cond_true false x y h = cc
-
-pub cond_false : {A : Type 0} (b : Bool) (x y : A) → b ≡ false → cond b x y ≡ y
-cond_false false x y h = refl
-cond_false true x y h = cc
+use Rattle.scan_cycle.proofs.GateLaws.{left_inside, below_inside, all_one}
 
 -- ---- where actions look
-pub all_one : {A : Type 0} (P : A → Type 0) (x : A) → P x → All P (x ∷ [])
-all_one P x h = grind (arith, common_steps)
-
 placed_before : (p : Drawing) (j n : ℕ) → n ≤ PLACES → All IsPlaced (actions_before p j n)
 unfolding actions_before
 placed_before p j zero h = All-nil _
 placed_before p j (suc n) h = elim (cases_Bool (acts (cell_of p j n))) [
-  | inl t ↦ subst (λ (xs : List Action). All IsPlaced xs) (sym (cond_true (acts (cell_of p j n)) _ _ t))
+  | inl t ↦ subst (λ (xs : List Action). All IsPlaced xs) (sym (cond-true (acts (cell_of p j n)) _ _ t))
       (All-append IsPlaced (actions_before p j n) _ (placed_before p j n (omega arith))
       (all_one IsPlaced (action_at p j n) (omega arith, left_inside p j n (omega arith), below_inside p j n (omega arith))))
-  | inr t ↦ subst (λ (xs : List Action). All IsPlaced xs) (sym (cond_false (acts (cell_of p j n)) _ _ t)) (placed_before p j n (omega arith))
+  | inr t ↦ subst (λ (xs : List Action). All IsPlaced xs) (sym (cond-false (acts (cell_of p j n)) _ _ t)) (placed_before p j n (omega arith))
 ]
 
 pub places : (p : Drawing) (j : ℕ) → All IsPlaced (actions_of p j)
@@ -46,15 +34,10 @@ places p j = placed_before p j PLACES (omega arith)
 -- ---- the effects
 module _ (p : Drawing) (now j : ℕ) (start : Frame Bool) where
   still : (c : Cell) (x y : Bool) (h : Held) → acts c ≡ false → changed (diagram_of p) now start c x y h ≡ h
-  still Empty x y h t = refl
-  still Wire x y h t = refl
-  still (Contact mode operand None) x y h t = refl
   still (Contact mode operand (Some memory)) x y h t = cc
   still (Coil mode var memory) x y h t = cc
   still (Block inst) x y h t = cc
-  still (Lower inst linked) x y h t = refl
-  still (Jump target) x y h t = refl
-  still Return x y h t = refl
+  still _ x y h t = refl
 
   changes_append : (R : List Bool) (xs ys : List Action) (h : Held) → changes_of (diagram_of p) now start R (xs ++ ys) h ≡ changes_of (diagram_of p) now start R ys (changes_of (diagram_of p) now start R xs h)
   unfolding changes_of
@@ -80,13 +63,13 @@ module _ (p : Drawing) (now j : ℕ) (start : Frame Bool) where
     changes_along zero lt h = refl
     changes_along (suc n) lt h = elim (cases_Bool (acts (cell_of p j n))) [
       | inl t ↦
-          ap (λ xs. changes_of (diagram_of p) now start R xs h) (cond_true (acts (cell_of p j n)) (actions_before p j n ++ action_at p j n ∷ []) _ t)
+          ap (λ xs. changes_of (diagram_of p) now start R xs h) (cond-true (acts (cell_of p j n)) (actions_before p j n ++ action_at p j n ∷ []) _ t)
           ∙ changes_append R (actions_before p j n) (action_at p j n ∷ []) h
           ∙ changes_one R (action_at p j n) _
           ∙ change_is n (omega arith) _
           ∙ ap (changed (diagram_of p) now start ((diagram_of p).cell j n) (lb n) (second plain (diagram_of p) j lb n)) (changes_along n (omega arith) h)
       | inr t ↦
-          ap (λ xs. changes_of (diagram_of p) now start R xs h) (cond_false (acts (cell_of p j n)) (actions_before p j n ++ action_at p j n ∷ []) _ t)
+          ap (λ xs. changes_of (diagram_of p) now start R xs h) (cond-false (acts (cell_of p j n)) (actions_before p j n ++ action_at p j n ∷ []) _ t)
           ∙ changes_along n (omega arith) h
           ∙ sym (still ((diagram_of p).cell j n) (lb n) (second plain (diagram_of p) j lb n) _ (ap acts (cell_is p j n (omega arith)) ∙ t))
     ]

@@ -1,6 +1,7 @@
 -- The scan rung by rung goes along the list of evaluated rungs.
 use Rattle.std.proofs.Common.{◌≡◌, ℕ, ◌+◌, ◌<◌, ◌≤◌, max, Bool, true, false, cond, List, [], ◌∷◌, zero, suc, nat_lt, refl, sym, ap, subst, ◌∙◌, arith, Option, Some, None}
 use Rattle.std.proofs.lemmas.Bool.Decides.{nat_tests}
+use Rattle.std.proofs.lemmas.Bool.{lt-ltb, le-ltb}
 use Rattle.scan_cycle.specs.Cells.{Diagram}
 use Rattle.scan_cycle.specs.Rung.{Held, link_at, evaluated}
 use Rattle.scan_cycle.specs.Scan.{Evaluates, none_left, one_more, evaluated_from, next_rung, given}
@@ -56,22 +57,16 @@ unfolding From scanned
 scan_is_list d forward now h = from d forward now h d.rungs 0 (omega arith)
 
 -- ---- what the evaluation of such a list leaves is the function's value
-is_less : (a b : ℕ) → a < b → nat_lt a b ≡ true
-is_less a b h = grind (arith, nat_tests)
-
-is_not_less : (a b : ℕ) → b ≤ a → nat_lt a b ≡ false
-is_not_less a b h = grind (arith, nat_tests)
-
 evaluated_is : (d : Diagram) → Forward d → (now j : ℕ) (h : Held) (js : List ℕ) (last : Held) → Evaluates d now j h js last → (most : ℕ) → d.rungs ≤ j + most → last ≡ evaluated_from d now most j h
 unfolding evaluated_from
 evaluated_is d forward now _ _ _ _ (none_left j h end) zero e = refl
 evaluated_is d forward now _ _ _ _ (none_left j h end) (suc most) e =
-    ap (λ b. cond b (evaluated_from d now most (next_rung d now j h) (evaluated d now j h)) h) (sym (is_not_less j d.rungs end))
+    ap (λ b. cond b (evaluated_from d now most (next_rung d now j h) (evaluated d now j h)) h) (sym (le-ltb j d.rungs end))
 evaluated_is d forward now _ _ _ _ (one_more j h more last lt rest) zero e = absurd (omega arith)
 evaluated_is d forward now _ _ _ _ (one_more j h more last lt rest) (suc most) e =
     let after : j < next_rung d now j h = next_after j (d.jump j) (link_at d now j h) (forward j) in
     evaluated_is d forward now (next_rung d now j h) (evaluated d now j h) more last rest most (omega arith)
-    ∙ ap (λ b. cond b (evaluated_from d now most (next_rung d now j h) (evaluated d now j h)) h) (sym (is_less j d.rungs lt))
+    ∙ ap (λ b. cond b (evaluated_from d now most (next_rung d now j h) (evaluated d now j h)) h) (sym (lt-ltb j d.rungs lt))
 
 pub scanned_is : (d : Diagram) → Forward d → (now : ℕ) (h : Held) → (scanned d now h d.rungs).held ≡ evaluated_from d now d.rungs 0 h
 scanned_is d forward now h =

@@ -1,7 +1,7 @@
 -- What a cell changes, one part of the state after the other: its variable, its memory and its instance.
-use Rattle.std.proofs.Common.{◌≡◌, ℕ, Bool, false, refl}
+use Rattle.std.proofs.Common.{◌≡◌, ℕ, Bool, false, List, get_or, Option, Some, None, refl, sym, ap, get_or-set_other}
 use Rattle.diagram_program.specs.declared.cell.Cell.{Cell}
-use Rattle.diagram_program.specs.declared.cell.Cell.TheVariants.{Empty, Wire, Contact, Coil, Block, Lower, Jump, Return}
+use Rattle.diagram_program.specs.declared.cell.Cell.TheVariants.{Empty, Contact, Block}
 use Rattle.diagram_program.specs.Program.{memory_in, block_in}
 use Rattle.scan_signals.specs.declared.block.Stored.{Stored}
 use Rattle.scan_signals.specs.Blocks.{step}
@@ -28,10 +28,13 @@ changed_by d now start c x y h =
 
 pub changed_is : (d : Diagram) (now : ℕ) (start : Frame Bool) (c : Cell) (x y : Bool) (h : Held) → changed d now start c x y h ≡ changed_by d now start c x y h
 changed_is d now start Empty x y h = refl
-changed_is d now start Wire x y h = refl
-changed_is d now start (Contact mode operand memory) x y h = refl
-changed_is d now start (Coil mode var memory) x y h = refl
-changed_is d now start (Block inst) x y h = refl
-changed_is d now start (Lower inst linked) x y h = refl
-changed_is d now start (Jump target) x y h = refl
-changed_is d now start Return x y h = refl
+changed_is d now start _ x y h = refl
+
+-- ---- what may be nowhere
+pub at_same : {A : Type 0} (xs ys : List A) (m : Option ℕ) (d : A) → ((i : ℕ) → m ≡ Some i → get_or xs i d ≡ get_or ys i d) → at xs m d ≡ at ys m d
+at_same xs ys None d h = refl
+at_same xs ys (Some i) d h = h i refl
+
+pub put_other : {A : Type 0} (xs : List A) (m : Option ℕ) (v d : A) (i : ℕ) → (m ≡ Some i → ⊥) → get_or (put_in xs m v) i d ≡ get_or xs i d
+put_other xs None v d i h = refl
+put_other xs (Some n) v d i h = get_or-set_other xs n i v d (λ e. h (ap Some (sym e)))

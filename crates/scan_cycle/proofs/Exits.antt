@@ -1,5 +1,6 @@
 -- Jumps by the links of gates.
 use Rattle.std.proofs.Common.{◌≡◌, ℕ, ◌+◌, Bool, cond, refl, sym, ap, Option, Some, None}
+use Rattle.std.proofs.lemmas.Option.{same_Some}
 use Rattle.diagram_program.specs.declared.gates.Exit.{Exit}
 use Rattle.diagram_program.specs.Program.{Drawing, jump_of}
 use Rattle.diagram_program.specs.Gates.{left_of, exit_by, exit_of}
@@ -7,13 +8,10 @@ use Rattle.scan_cycle.specs.RungByRung.{rung_after}
 use Rattle.scan_cycle.specs.Programs.{diagram_of}
 use Rattle.scan_cycle.proofs.Sound.{placed}
 
-pub some_same : {A : Type 0} (a b : A) → Some a ≡ Some b → a ≡ b
-some_same a b h = cc
-
 after_by_exit : (p : Drawing) (j : ℕ) (links : ℕ → Bool) (jump : Option (ℕ × ℕ × ℕ)) (exit : Exit) → exit_by p j jump ≡ Some exit
     → cond (links exit.left) exit.target (j + 1) ≡ rung_after j (placed jump) (λ place. links (left_of p j place))
 after_by_exit p j links None exit h = cc
-after_by_exit p j links (Some (row, column, target)) exit h = ap (λ (e : Exit). cond (links e.left) e.target (j + 1)) (sym (some_same _ exit h))
+after_by_exit p j links (Some (row, column, target)) exit h = ap (λ (e : Exit). cond (links e.left) e.target (j + 1)) (sym (same_Some _ exit h))
 
 after_by_none : (p : Drawing) (j : ℕ) (links : ℕ → Bool) (jump : Option (ℕ × ℕ × ℕ)) → exit_by p j jump ≡ None
     → j + 1 ≡ rung_after j (placed jump) (λ place. links (left_of p j place))

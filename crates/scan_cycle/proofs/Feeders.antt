@@ -1,8 +1,8 @@
 -- The links of a rung, as far as they were found: what comes from the cells of a column is at the place of the last one that feeds a cell.
 -- It holds of any left links and right links of cells of which each column's come from those before.
-use Rattle.std.proofs.Common.{◌≡◌, ℕ, ◌+◌, ◌-◌, ◌*◌, ◌/◌, ◌%◌, ◌<◌, ◌≤◌, ◌&&◌, ◌||◌, Bool, true, false, cond, List, get_or, set, length, zero, suc, nat_eq, nat_lt, refl, sym, ap, ap₂, ◌∙◌, arith, get_or-set_other, get_or-set_same, length-set, inl, inr}
+use Rattle.std.proofs.Common.{◌≡◌, ℕ, ◌+◌, ◌-◌, ◌*◌, ◌/◌, ◌%◌, ◌<◌, ◌≤◌, ◌&&◌, Bool, true, false, cond, List, get_or, set, length, zero, suc, nat_eq, nat_lt, refl, sym, ap, ap₂, ◌∙◌, arith, get_or-set_other, get_or-set_same, length-set, inl, inr}
 use Rattle.std.proofs.lemmas.Bool.Decides.{nat_tests}
-use Rattle.std.proofs.lemmas.Bool.{cases_eq, cases_Bool}
+use Rattle.std.proofs.lemmas.Bool.{cases_eq, cases_Bool, cond-true, cond-false, eqb-true, lt-ltb, ltb-true, and_parts}
 use Rattle.diagram_program.specs.declared.geometry.TheConstants.{ROWS, COLUMNS, PLACES}
 use Rattle.diagram_program.specs.declared.gates.TheConstants.{ON, OFF, LINKS}
 use Rattle.diagram_program.specs.declared.cell.Cell.{Cell}
@@ -17,31 +17,9 @@ use Rattle.scan_cycle.proofs.Groups.{fed_on, group}
 use Rattle.scan_cycle.proofs.Links.{fed_same, either_value}
 
 -- ---- numbers and tests
-pub cond_true : {A : Type 0} (b : Bool) (x y : A) → b ≡ true → cond b x y ≡ x
-cond_true true x y h = refl
-cond_true false x y h = cc
-
-pub cond_false : {A : Type 0} (b : Bool) (x y : A) → b ≡ false → cond b x y ≡ y
-cond_false false x y h = refl
-cond_false true x y h = cc
-
-pub either_test : (a b : Bool) → (a || b) ≡ false → (a ≡ false) × (b ≡ false)
-either_test false false h = (refl, refl)
-either_test false true h = cc
-either_test true b h = cc
-
 pub on_off : (b : Bool) → b ≡ true → b ≡ false → ⊥
 on_off true h k = cc
 on_off false h k = cc
-
-pub same_number : (a b : ℕ) → nat_eq a b ≡ true → a ≡ b
-same_number a b h = grind (arith, nat_tests)
-
-pub is_less : (a b : ℕ) → a < b → nat_lt a b ≡ true
-is_less a b h = grind (arith, nat_tests)
-
-pub less_is : (a b : ℕ) → nat_lt a b ≡ true → a < b
-less_is a b h = grind (arith, nat_tests)
 
 pub the_column : (column row : ℕ) → row < ROWS → (ROWS * column + row) / ROWS ≡ column
 the_column column row h = omega arith
@@ -55,15 +33,10 @@ place_is e = omega arith
 pub row_small : (e : ℕ) → e % ROWS < ROWS
 row_small e = omega arith
 
-pub both_true : (a b : Bool) → (a && b) ≡ true → (a ≡ true) × (b ≡ true)
-both_true true true h = (refl, refl)
-both_true true false h = cc
-both_true false b h = cc
-
 -- ---- the diagram of a drawing
 pub cell_is : (p : Drawing) (j place : ℕ) → place < PLACES → (diagram_of p).cell j place ≡ cell_of p j place
 unfolding diagram_of
-cell_is p j place h = cond_true (nat_lt place PLACES) (cell_of p j place) Empty (is_less place PLACES h)
+cell_is p j place h = cond-true (nat_lt place PLACES) (cell_of p j place) Empty (lt-ltb place PLACES h)
 
 pub feeds_is : (p : Drawing) (j row column q : ℕ) → (diagram_of p).feeds j row column q ≡ feeds p j row column q
 unfolding diagram_of
@@ -73,8 +46,8 @@ pub linked_is : (p : Drawing) (j e : ℕ) → e < PLACES → (diagram_of p).link
 unfolding diagram_of
 linked_is p j e h = elim (cases_Bool (nat_lt (e % ROWS + 1) ROWS)) [
   | inl t ↦
-      let k : e % ROWS + 1 < ROWS = less_is _ _ t in
-      ap (λ (c : Cell). nat_lt (e % ROWS + 1) ROWS && is_linked c) (cond_true (nat_lt (e + 1) PLACES) (cell_of p j (e + 1)) Empty (is_less (e + 1) PLACES (omega arith)))
+      let k : e % ROWS + 1 < ROWS = ltb-true _ _ t in
+      ap (λ (c : Cell). nat_lt (e % ROWS + 1) ROWS && is_linked c) (cond-true (nat_lt (e + 1) PLACES) (cell_of p j (e + 1)) Empty (lt-ltb (e + 1) PLACES (omega arith)))
   | inr t ↦ ap (λ b. b && is_linked (cell_at p j (e + 1))) t ∙ sym (ap (λ b. b && is_linked (cell_of p j (e + 1))) t)
 ]
 
@@ -131,12 +104,12 @@ module _ {S : Type 0} (o : Algebra S) (V : S → Type 0) (l : LatticeLaws S V o)
   want_is : (column q : ℕ) → column + 1 < COLUMNS → q < ROWS → want o p j right (ROWS * column + q) ≡ o.join (right column q) (join_where o (feeds p j q (column + 1)) (right column) q)
   want_is column q c h =
       ap₂ (λ a b. o.join (right a b) (above o p j right a b)) (the_column column q h) (the_row column q h)
-      ∙ ap (o.join (right column q)) (cond_true (nat_lt (column + 1) COLUMNS) _ _ (is_less (column + 1) COLUMNS c))
+      ∙ ap (o.join (right column q)) (cond-true (nat_lt (column + 1) COLUMNS) _ _ (lt-ltb (column + 1) COLUMNS c))
 
   feeds_there : (row column q : ℕ) → row < ROWS → column + 1 < COLUMNS → q < ROWS → feeds p j row (column + 1) q ≡ true → feeds_on p j (ROWS * column + q) ≡ true
   feeds_there row column q r c h fed =
       ap₂ (λ a b. nat_lt (a + 1) COLUMNS && feeds p j b (a + 1) b) (the_column column q h) (the_row column q h)
-      ∙ ap (λ b. b && feeds p j q (column + 1) q) (is_less (column + 1) COLUMNS c)
+      ∙ ap (λ b. b && feeds p j q (column + 1) q) (lt-ltb (column + 1) COLUMNS c)
       ∙ fed_on p j column row q r h fed
 
   -- The last of the first n rows that feeds a cell has the OR over these rows.
@@ -147,32 +120,32 @@ module _ {S : Type 0} (o : Algebra S) (V : S → Type 0) (l : LatticeLaws S V o)
   at_last row column (suc n) r c h m le R good = elim (cases_Bool (feeds p j row (column + 1) n)) [
     | inl b ↦
         let base : ROWS * (column + 1 - 1) + n ≡ ROWS * column + n = omega arith in
-        ap (λ e. get_or R e (o.known false)) (cond_true (feeds p j row (column + 1) n) (ROWS * (column + 1 - 1) + n) _ b)
+        ap (λ e. get_or R e (o.known false)) (cond-true (feeds p j row (column + 1) n) (ROWS * (column + 1 - 1) + n) _ b)
         ∙ ap (λ e. get_or R e (o.known false)) base
         ∙ good.fed (ROWS * column + n) (omega arith) (feeds_there row column n r c (omega arith) b)
         ∙ want_is column n c (omega arith)
         ∙ ap (o.join (right column n)) (fed_same o V l (feeds p j n (column + 1)) (feeds p j row (column + 1)) (right column) (right column) n (λ q lt. group p j column row n r (omega arith) b q (omega arith)) (λ q lt t. refl))
         ∙ l.join_comm _ _ (right_value column n) (joined_value (feeds p j row (column + 1)) (right column) n (λ q. right_value column q))
-        ∙ sym (cond_true (feeds p j row (column + 1) n) (o.join (join_where o (feeds p j row (column + 1)) (right column) n) (right column n)) _ b)
+        ∙ sym (cond-true (feeds p j row (column + 1) n) (o.join (join_where o (feeds p j row (column + 1)) (right column) n) (right column n)) _ b)
     | inr b ↦
-        ap (λ e. get_or R e (o.known false)) (cond_false (feeds p j row (column + 1) n) (ROWS * (column + 1 - 1) + n) _ b)
+        ap (λ e. get_or R e (o.known false)) (cond-false (feeds p j row (column + 1) n) (ROWS * (column + 1 - 1) + n) _ b)
         ∙ at_last row column n r c (omega arith) m (omega arith) R good
-        ∙ sym (cond_false (feeds p j row (column + 1) n) (o.join (join_where o (feeds p j row (column + 1)) (right column) n) (right column n)) _ b)
+        ∙ sym (cond-false (feeds p j row (column + 1) n) (o.join (join_where o (feeds p j row (column + 1)) (right column) n) (right column n)) _ b)
   ]
 
   -- ---- what a gate looks at
   pub left_is : (e : ℕ) → e < PLACES → (m : ℕ) → ROWS * (e / ROWS) ≤ m → (R : List S) → Feeding o p j right m R → get_or R (left_of p j e) (o.known false) ≡ lk (e % ROWS) (e / ROWS)
   left_is e h m le R good = elim (cases_Bool (nat_eq (e / ROWS) 0)) [
     | inl b ↦
-        let none : e / ROWS ≡ 0 = same_number (e / ROWS) 0 b in
-        ap (λ n. get_or R n (o.known false)) (cond_true (nat_eq (e / ROWS) 0) ON (last_feeder p j (e % ROWS) (e / ROWS) ROWS) b) ∙ good.on
+        let none : e / ROWS ≡ 0 = eqb-true (e / ROWS) 0 b in
+        ap (λ n. get_or R n (o.known false)) (cond-true (nat_eq (e / ROWS) 0) ON (last_feeder p j (e % ROWS) (e / ROWS) ROWS) b) ∙ good.on
         ∙ sym (first e (omega (arith, none)))
     | inr b ↦
         let some : 1 ≤ e / ROWS = grind (arith, nat_tests) in
         let column = e / ROWS - 1 in
         let there : column + 1 ≡ e / ROWS = omega arith in
         let next : suc column ≡ e / ROWS = omega arith in
-        ap (λ n. get_or R n (o.known false)) (cond_false (nat_eq (e / ROWS) 0) ON (last_feeder p j (e % ROWS) (e / ROWS) ROWS) b)
+        ap (λ n. get_or R n (o.known false)) (cond-false (nat_eq (e / ROWS) 0) ON (last_feeder p j (e % ROWS) (e / ROWS) ROWS) b)
         ∙ ap (λ c. get_or R (last_feeder p j (e % ROWS) c ROWS) (o.known false)) (sym there)
         ∙ at_last (e % ROWS) column ROWS (row_small e) (omega arith) (omega arith) m (omega arith) R good
         ∙ ap (λ c. join_where o (feeds p j (e % ROWS) c) (right column) ROWS) (there ∙ sym next)
@@ -184,36 +157,36 @@ module _ {S : Type 0} (o : Algebra S) (V : S → Type 0) (l : LatticeLaws S V o)
   pub other_is : (e : ℕ) → e < PLACES → (R : List S) → Feeding o p j right e R → get_or R (other_of p j e) (o.known false) ≡ above o p j right (e / ROWS) (e % ROWS)
   other_is e h R good = elim (cases_Bool (nat_lt (e / ROWS + 1) COLUMNS)) [
     | inl b ↦
-        ap (λ n. get_or R n (o.known false)) (cond_true (nat_lt (e / ROWS + 1) COLUMNS) (last_feeder p j (e % ROWS) (e / ROWS + 1) (e % ROWS)) OFF b)
-        ∙ at_last (e % ROWS) (e / ROWS) (e % ROWS) (row_small e) (less_is _ _ b) (omega arith) e (omega arith) R good
-        ∙ sym (cond_true (nat_lt (e / ROWS + 1) COLUMNS) _ _ b)
+        ap (λ n. get_or R n (o.known false)) (cond-true (nat_lt (e / ROWS + 1) COLUMNS) (last_feeder p j (e % ROWS) (e / ROWS + 1) (e % ROWS)) OFF b)
+        ∙ at_last (e % ROWS) (e / ROWS) (e % ROWS) (row_small e) (ltb-true _ _ b) (omega arith) e (omega arith) R good
+        ∙ sym (cond-true (nat_lt (e / ROWS + 1) COLUMNS) _ _ b)
     | inr b ↦
-        ap (λ n. get_or R n (o.known false)) (cond_false (nat_lt (e / ROWS + 1) COLUMNS) (last_feeder p j (e % ROWS) (e / ROWS + 1) (e % ROWS)) OFF b)
-        ∙ good.off ∙ sym (cond_false (nat_lt (e / ROWS + 1) COLUMNS) _ _ b)
+        ap (λ n. get_or R n (o.known false)) (cond-false (nat_lt (e / ROWS + 1) COLUMNS) (last_feeder p j (e % ROWS) (e / ROWS + 1) (e % ROWS)) OFF b)
+        ∙ good.off ∙ sym (cond-false (nat_lt (e / ROWS + 1) COLUMNS) _ _ b)
   ]
 
   pub below_is : (e : ℕ) → e < PLACES → (m : ℕ) → ROWS * (e / ROWS) ≤ m → (R : List S) → Feeding o p j right m R → get_or R (below_of p j e) (o.known false) ≡ lower o ((diagram_of p).linked j e) (lk (e % ROWS + 1) (e / ROWS))
   below_is e h m le R good = elim (cases_Bool (nat_lt (e % ROWS + 1) ROWS && is_linked (cell_of p j (e + 1)))) [
     | inl b ↦
-        let row : e % ROWS + 1 < ROWS = less_is _ _ (both_true _ _ b).0 in
+        let row : e % ROWS + 1 < ROWS = ltb-true _ _ (and_parts _ _ b).0 in
         let next_row : (e + 1) % ROWS ≡ e % ROWS + 1 = omega arith in
         let same_column : (e + 1) / ROWS ≡ e / ROWS = omega arith in
-        ap (λ n. get_or R n (o.known false)) (cond_true _ (left_of p j (e + 1)) OFF b)
+        ap (λ n. get_or R n (o.known false)) (cond-true _ (left_of p j (e + 1)) OFF b)
         ∙ left_is (e + 1) (omega arith) m (omega (arith, same_column)) R good
         ∙ ap₂ lk next_row same_column
-        ∙ sym (cond_true ((diagram_of p).linked j e) (lk (e % ROWS + 1) (e / ROWS)) (o.known false) (linked_is p j e h ∙ b))
+        ∙ sym (cond-true ((diagram_of p).linked j e) (lk (e % ROWS + 1) (e / ROWS)) (o.known false) (linked_is p j e h ∙ b))
     | inr b ↦
-        ap (λ n. get_or R n (o.known false)) (cond_false _ (left_of p j (e + 1)) OFF b)
+        ap (λ n. get_or R n (o.known false)) (cond-false _ (left_of p j (e + 1)) OFF b)
         ∙ good.off
-        ∙ sym (cond_false ((diagram_of p).linked j e) (lk (e % ROWS + 1) (e / ROWS)) (o.known false) (linked_is p j e h ∙ b))
+        ∙ sym (cond-false ((diagram_of p).linked j e) (lk (e % ROWS + 1) (e / ROWS)) (o.known false) (linked_is p j e h ∙ b))
   ]
 
   pub second_is : (e : ℕ) → e < PLACES → second o (diagram_of p) j (λ i. lk (i % ROWS) (i / ROWS)) e ≡ lower o ((diagram_of p).linked j e) (lk (e % ROWS + 1) (e / ROWS))
   second_is e h = elim (cases_Bool ((diagram_of p).linked j e)) [
     | inl b ↦
-        let row : e % ROWS + 1 < ROWS = less_is _ _ (both_true _ _ (sym (linked_is p j e h) ∙ b)).0 in
+        let row : e % ROWS + 1 < ROWS = ltb-true _ _ (and_parts _ _ (sym (linked_is p j e h) ∙ b)).0 in
         let next_row : (e + 1) % ROWS ≡ e % ROWS + 1 = omega arith in
         let same_column : (e + 1) / ROWS ≡ e / ROWS = omega arith in
         ap (lower o ((diagram_of p).linked j e)) (ap₂ lk next_row same_column)
-    | inr b ↦ cond_false ((diagram_of p).linked j e) _ (o.known false) b ∙ sym (cond_false ((diagram_of p).linked j e) _ (o.known false) b)
+    | inr b ↦ cond-false ((diagram_of p).linked j e) _ (o.known false) b ∙ sym (cond-false ((diagram_of p).linked j e) _ (o.known false) b)
   ]

@@ -11,17 +11,12 @@ use Rattle.scan_signals.specs.Algebra.{Algebra, LatticeLaws}
 use Rattle.scan_cycle.specs.Gating.{join_where}
 use Rattle.scan_cycle.specs.Routes.{join_all, Route, rail, block_end, through, Circuit, routes, route_value, link_with, ends_below, left_link}
 use Rattle.scan_cycle.proofs.Joins.{join_all-value, join_all-append, join_all-meet}
+use Rattle.diagram_program.proofs.Ranges.{range_more}
 
 -- the lists f 0, f 1, .. and f (n - 1), joined end to end
 pub gather : {A : Type 0} → (ℕ → List A) → ℕ → List A
 gather f zero = []
 gather f (suc n) = gather f n ++ f n
-
-range_more : (a n : ℕ) → range_with_len a (suc n) ≡ range_with_len a n ++ (a + n) ∷ []
-range_more a zero = let same : a ≡ a + 0 = omega arith in ap (λ b. b ∷ []) same
-range_more a (suc n) =
-    let moved : a + 1 + n ≡ a + suc n = omega arith in
-    ap (λ xs. a ∷ xs) (range_more (a + 1) n ∙ ap (λ b. range_with_len (a + 1) n ++ b ∷ []) moved)
 
 single : {A : Type 0} (f : ℕ → List A) (b : Bool) (n : ℕ) → flat_map f (cond b (n ∷ []) []) ≡ cond b (f n) []
 single f true n = append-nil (f n)

@@ -1,6 +1,6 @@
 -- The gates of a rung find the left links of its cells, over any signal and from its laws alone.
 use Rattle.std.proofs.Common.{◌≡◌, ℕ, ◌+◌, ◌-◌, ◌*◌, ◌/◌, ◌%◌, ◌<◌, ◌≤◌, ◌&&◌, Bool, true, false, cond, List, [], ◌∷◌, ◌++◌, All, get_or, set, drop, length, zero, suc, nat_eq, nat_lt, refl, sym, ap, ap₂, subst, ◌∙◌, arith, get_or-set_other, get_or-set_same, length-set, inl, inr}
-use Rattle.std.proofs.lemmas.Bool.{cases_eq, cases_Bool}
+use Rattle.std.proofs.lemmas.Bool.{cases_eq, cases_Bool, cond-true, cond-false, or_parts, ltb-true, and_parts}
 use Rattle.std.proofs.lemmas.List.{drop_more, drop_all}
 use Rattle.std.proofs.lemmas.List.Elements.{All-append, All-nil}
 use Rattle.std.proofs.lemmas.Grind.{common_steps}
@@ -11,7 +11,7 @@ use Rattle.diagram_program.specs.declared.gates.TheConstants.{ON, OFF, OWN, LINK
 use Rattle.diagram_program.specs.declared.cell.Operand.{Operand}
 use Rattle.diagram_program.specs.declared.cell.Operand.TheVariants.{Var, Output}
 use Rattle.diagram_program.specs.declared.cell.Cell.{Cell}
-use Rattle.diagram_program.specs.declared.cell.Cell.TheVariants.{Empty, Wire, Contact, Coil, Block, Lower, Jump, Return}
+use Rattle.diagram_program.specs.declared.cell.Cell.TheVariants.{Contact, Block}
 use Rattle.diagram_program.specs.declared.gates.Gate.{Gate}
 use Rattle.diagram_program.specs.declared.gates.Literal.TheVariants.{Is, Not, Other}
 use Rattle.diagram_program.specs.Program.{Drawing, feeds, cell_of, is_block, is_linked}
@@ -24,7 +24,7 @@ use Rattle.scan_cycle.specs.Programs.{diagram_of}
 use Rattle.scan_cycle.specs.Gating.{join_where, own, through, is_other, let_through, passed, ran, IsInside, AreLinks, AreValues}
 use Rattle.scan_cycle.proofs.Values.{left_value}
 use Rattle.scan_cycle.proofs.Links.{column_next, first_column, either_value, closed-value, q-value}
-use Rattle.scan_cycle.proofs.Feeders.{Feeding, fed_more, fed_without, left_is, other_is, below_is, second_is, cond_true, cond_false, either_test, on_off, less_is, place_is, both_true, cell_is}
+use Rattle.scan_cycle.proofs.Feeders.{Feeding, fed_more, fed_without, left_is, other_is, below_is, second_is, on_off, place_is, cell_is}
 
 -- ---- one turn of the loop
 pub run_more : {S : Type 0} (o : Algebra S) (d : Diagram) (k : Kept) (now j : ℕ) (f : Frame S) (links next : List S) (gs : List Gate) (i : ℕ) (g : Gate)
@@ -46,8 +46,8 @@ last_inside : (f : ℕ → Bool) (base n : ℕ) → base + n ≤ PLACES → last
 unfolding last_of
 last_inside f base zero h = omega arith
 last_inside f base (suc n) h = elim (cases_Bool (f n)) [
-  | inl t ↦ subst (λ (x : ℕ). x < OWN) (sym (cond_true (f n) (base + n) (last_of f base n) t)) (omega arith)
-  | inr t ↦ subst (λ (x : ℕ). x < OWN) (sym (cond_false (f n) (base + n) (last_of f base n) t)) (last_inside f base n (omega arith))
+  | inl t ↦ subst (λ (x : ℕ). x < OWN) (sym (cond-true (f n) (base + n) (last_of f base n) t)) (omega arith)
+  | inr t ↦ subst (λ (x : ℕ). x < OWN) (sym (cond-false (f n) (base + n) (last_of f base n) t)) (last_inside f base n (omega arith))
 ]
 
 either_inside : (b : Bool) (x y : ℕ) → (b ≡ true → x < OWN) → y < OWN → cond b x y < OWN
@@ -60,24 +60,24 @@ left_inside p rung e h = either_inside (nat_eq (e / ROWS) 0) ON _ (λ t. omega a
 other_inside : (p : Drawing) (rung e : ℕ) → e < PLACES → other_of p rung e < OWN
 other_inside p rung e h =
     either_inside (nat_lt (e / ROWS + 1) COLUMNS) _ OFF
-    (λ t. let k : e / ROWS + 1 < COLUMNS = less_is _ _ t in last_inside (feeds p rung (e % ROWS) (e / ROWS + 1)) (ROWS * (e / ROWS + 1 - 1)) (e % ROWS) (omega arith)) (omega arith)
+    (λ t. let k : e / ROWS + 1 < COLUMNS = ltb-true _ _ t in last_inside (feeds p rung (e % ROWS) (e / ROWS + 1)) (ROWS * (e / ROWS + 1 - 1)) (e % ROWS) (omega arith)) (omega arith)
 
 pub below_inside : (p : Drawing) (rung e : ℕ) → e < PLACES → below_of p rung e < OWN
 below_inside p rung e h =
     either_inside (nat_lt (e % ROWS + 1) ROWS && is_linked (cell_of p rung (e + 1))) _ OFF
-    (λ t. let k : e % ROWS + 1 < ROWS = less_is _ _ (both_true _ _ t).0 in left_inside p rung (e + 1) (omega arith)) (omega arith)
+    (λ t. let k : e % ROWS + 1 < ROWS = ltb-true _ _ (and_parts _ _ t).0 in left_inside p rung (e + 1) (omega arith)) (omega arith)
 
-all_one : {A : Type 0} (P : A → Type 0) (x : A) → P x → All P (x ∷ [])
+pub all_one : {A : Type 0} (P : A → Type 0) (x : A) → P x → All P (x ∷ [])
 all_one P x h = grind (arith, common_steps)
 
 inside_before : (p : Drawing) (rung n : ℕ) → n ≤ PLACES → All IsInside (gates_before p rung n)
 unfolding gates_before
 inside_before p rung zero h = All-nil _
 inside_before p rung (suc n) h = elim (cases_Bool (has_gate p rung n)) [
-  | inl t ↦ subst (λ (xs : List Gate). All IsInside xs) (sym (cond_true (has_gate p rung n) _ _ t))
+  | inl t ↦ subst (λ (xs : List Gate). All IsInside xs) (sym (cond-true (has_gate p rung n) _ _ t))
       (All-append IsInside (gates_before p rung n) _ (inside_before p rung n (omega arith))
       (all_one IsInside (gate_at p rung n) (omega arith, left_inside p rung n (omega arith), below_inside p rung n (omega arith), other_inside p rung n (omega arith))))
-  | inr t ↦ subst (λ (xs : List Gate). All IsInside xs) (sym (cond_false (has_gate p rung n) _ _ t)) (inside_before p rung n (omega arith))
+  | inr t ↦ subst (λ (xs : List Gate). All IsInside xs) (sym (cond-false (has_gate p rung n) _ _ t)) (inside_before p rung n (omega arith))
 ]
 
 pub gates_inside : (p : Drawing) (rung : ℕ) → All IsInside (gates_of p rung)
@@ -136,25 +136,13 @@ module _ {S : Type 0} (o : Algebra S) (V : S → Type 0) (l : LatticeLaws S V o)
   contact_through Falling operand memory x y = refl
 
   cell_through : (c : Cell) (x y : S) → through o (diagram_of p) k now f (literal_of c) c x y ≡ own o (diagram_of p) k now f c x y
-  cell_through Empty x y = refl
-  cell_through Wire x y = refl
   cell_through (Contact mode operand memory) x y = contact_through mode operand memory x y
-  cell_through (Coil mode var memory) x y = refl
-  cell_through (Block inst) x y = refl
-  cell_through (Lower inst linked) x y = refl
-  cell_through (Jump target) x y = refl
-  cell_through Return x y = refl
+  cell_through _ x y = refl
 
   -- the gate of a block keeps its Q by itself
   block_other : (c : Cell) → is_block c ≡ true → is_other (literal_of c) ≡ true
-  block_other Empty h = cc
-  block_other Wire h = cc
-  block_other (Contact mode operand memory) h = cc
-  block_other (Coil mode var memory) h = cc
   block_other (Block inst) h = refl
-  block_other (Lower inst linked) h = cc
-  block_other (Jump target) h = cc
-  block_other Return h = cc
+  block_other _ h = cc
 
   -- ---- links so far
   first : (e : ℕ) → e < ROWS → lk (e % ROWS) (e / ROWS) ≡ o.known true
@@ -221,7 +209,7 @@ module _ {S : Type 0} (o : Algebra S) (V : S → Type 0) (l : LatticeLaws S V o)
 
   no_gate : (e : ℕ) → e < PLACES → has_gate p j e ≡ false → (R : List S) → Good e R → Good (suc e) R
   no_gate e h none R good =
-      let w = either_test (is_block (cell_of p j e)) (feeds_on p j e) none in
+      let w = or_parts (is_block (cell_of p j e)) (feeds_on p j e) none in
       record {
         feeding = fed_without o p j right e w.1 R good.feeding;
         alone = λ i lt t. elim (cases_eq i e) [
@@ -242,9 +230,9 @@ module _ {S : Type 0} (o : Algebra S) (V : S → Type 0) (l : LatticeLaws S V o)
   all_good (suc n) h R long on off =
       let before = all_good n (omega arith) R long on off in
       elim (cases_Bool (has_gate p j n)) [
-        | inl b ↦ subst (λ (gs : List Gate). Good (suc n) (ran o (diagram_of p) k now j f gs R)) (sym (cond_true (has_gate p j n) _ _ b))
+        | inl b ↦ subst (λ (gs : List Gate). Good (suc n) (ran o (diagram_of p) k now j f gs R)) (sym (cond-true (has_gate p j n) _ _ b))
             (subst (λ (xs : List S). Good (suc n) xs) (sym (ran_append (gates_before p j n) (gate_at p j n ∷ []) R)) (one_gate n (omega arith) _ before))
-        | inr b ↦ subst (λ (gs : List Gate). Good (suc n) (ran o (diagram_of p) k now j f gs R)) (sym (cond_false (has_gate p j n) _ _ b)) (no_gate n (omega arith) b _ before)
+        | inr b ↦ subst (λ (gs : List Gate). Good (suc n) (ran o (diagram_of p) k now j f gs R)) (sym (cond-false (has_gate p j n) _ _ b)) (no_gate n (omega arith) b _ before)
       ]
 
   -- ---- all gates
@@ -259,7 +247,7 @@ module _ {S : Type 0} (o : Algebra S) (V : S → Type 0) (l : LatticeLaws S V o)
         own = λ e h block.
             good.alone e h block
             ∙ same_place e (λ i. own o (diagram_of p) k now f (cl i) (lk (e % ROWS) (e / ROWS)) (lower o ((diagram_of p).linked j i) (lk (e % ROWS + 1) (e / ROWS))))
-            ∙ cond_true (is_block (cl e)) _ _ block
+            ∙ cond-true (is_block (cl e)) _ _ block
             ∙ ap (q_here o (diagram_of p) k now (cl e) (lk (e % ROWS) (e / ROWS))) (sym (second_is o V l p j lk right right_value first next e h));
       }
 

@@ -83,11 +83,9 @@ module _ {S : Type 0} where
 
   -- with no value left, nothing changes
   given_none : (flags : List Bool) (values : List S) → given flags [] values ≡ values
-  given_none [] values = refl
-  given_none (true ∷ flags) [] = refl
-  given_none (false ∷ flags) [] = refl
   given_none (true ∷ flags) (v ∷ values) = ap (λ vs. v ∷ vs) (given_none flags values)
   given_none (false ∷ flags) (v ∷ values) = ap (λ vs. v ∷ vs) (given_none flags values)
+  given_none _ _ = refl
 
   -- where the first variables are the inputs that are given, they take the values as they stand
   pub given_leading : (flags : List Bool) (xs values : List S) → length xs ≤ length values → ((i : ℕ) → i < length xs → get_or flags i false ≡ true)

@@ -1,14 +1,9 @@
 -- Cells that one group joins are fed alike.
 use Rattle.std.proofs.Common.{◌≡◌, ℕ, ◌+◌, ◌-◌, ◌<◌, ◌≤◌, ◌&&◌, Bool, true, false, min, max, nat_le, refl, sym, ap, ap₂, ◌∙◌, arith, inl, inr}
-use Rattle.std.proofs.lemmas.Bool.{cases_lt}
+use Rattle.std.proofs.lemmas.Bool.{cases_lt, and_parts}
 use Rattle.diagram_program.specs.declared.geometry.TheConstants.{ROWS}
 use Rattle.diagram_program.specs.Program.{Drawing, feeds, joined, site_at, takes_power}
 use Rattle.diagram_program.proofs.JoinLaws.{joined_parts}
-
-both_true : (a b : Bool) → (a && b) ≡ true → (a ≡ true) × (b ≡ true)
-both_true true true h = (refl, refl)
-both_true true false h = cc
-both_true false b h = cc
 
 on_right : (a b : Bool) → b ≡ true → (a && b) ≡ a
 on_right true true h = refl
@@ -51,7 +46,7 @@ module _ (p : Drawing) (j column : ℕ) where
           | inl xb ↦ elim (cases_lt x a) [
             | inl xa ↦ downward b x (omega arith) ∙ along x a b (omega arith) (omega arith) ∙ on_right _ _ on ∙ sym (downward a x (omega arith))
             | inr ax ↦
-                let w = both_true _ _ (sym (along a x b (omega arith) (omega arith)) ∙ on) in
+                let w = and_parts _ _ (sym (along a x b (omega arith) (omega arith)) ∙ on) in
                 downward b x (omega arith) ∙ w.1 ∙ sym w.0 ∙ sym (upward a x (omega arith))
           ]
           | inr bx ↦ upward b x (omega arith) ∙ sym (on_left _ _ on) ∙ sym (along a b x (omega arith) (omega arith)) ∙ sym (upward a x (omega arith))
@@ -62,7 +57,7 @@ module _ (p : Drawing) (j column : ℕ) where
           | inl xb ↦ downward b x (omega arith) ∙ sym (on_right _ _ on) ∙ sym (along x b a (omega arith) (omega arith)) ∙ sym (downward a x (omega arith))
           | inr bx ↦ elim (cases_lt x a) [
             | inl xa ↦
-                let w = both_true _ _ (sym (along b x a (omega arith) (omega arith)) ∙ on) in
+                let w = and_parts _ _ (sym (along b x a (omega arith) (omega arith)) ∙ on) in
                 upward b x (omega arith) ∙ w.0 ∙ sym w.1 ∙ sym (downward a x (omega arith))
             | inr ax ↦ upward b x (omega arith) ∙ along b a x (omega arith) (omega arith) ∙ on_left _ _ on ∙ sym (upward a x (omega arith))
           ]
@@ -75,9 +70,9 @@ group p j column row q r h fed x lt =
     let from = site_at p j q (column + 1 - 1) in
     let joint = site_at p j q (column + 1) in
     let join : Bool = joined p j (min row q) (column + 1) (max row q - min row q) in
-    let a = both_true (nat_le 1 (column + 1)) (from.right_link && (takes_power joint.joint && join)) fed in
-    let b = both_true from.right_link (takes_power joint.joint && join) a.1 in
-    let c = both_true (takes_power joint.joint) join b.1 in
+    let a = and_parts (nat_le 1 (column + 1)) (from.right_link && (takes_power joint.joint && join)) fed in
+    let b = and_parts from.right_link (takes_power joint.joint && join) a.1 in
+    let c = and_parts (takes_power joint.joint) join b.1 in
     ap (λ (t : Bool). nat_le 1 (column + 1) && ((site_at p j x (column + 1 - 1)).right_link && (takes_power (site_at p j x (column + 1)).joint && t)))
     (joins_alike p j (column + 1) row q x c.1)
 

@@ -13,7 +13,7 @@ use Rattle.diagram_program.specs.declared.mode.Mode.TheVariants.{Plain, Negated,
 use Rattle.diagram_program.specs.declared.cell.Operand.{Operand}
 use Rattle.diagram_program.specs.declared.cell.Operand.TheVariants.{Var, Output}
 use Rattle.diagram_program.specs.declared.cell.Cell.{Cell}
-use Rattle.diagram_program.specs.declared.cell.Cell.TheVariants.{Empty, Wire, Contact, Coil, Block, Lower, Jump, Return}
+use Rattle.diagram_program.specs.declared.cell.Cell.TheVariants.{Wire, Contact, Coil, Block}
 use Rattle.diagram_program.specs.Program.{block_in, is_block}
 use Rattle.scan_cycle.specs.Cells.{Diagram, Frame, Kept, at, memory_of, operand_value, closed, contact, q_here, q_from}
 use Rattle.scan_cycle.specs.Rung.{circuit}
@@ -84,14 +84,10 @@ module _ {A B : Type 0} (a : Algebra A) (b : Algebra B) (R : A → B → Type 0)
   contact_kept Falling x m u n r s = k.meet _ _ _ _ (k.inverse _ _ r) s
 
   pub cell_kept : (f : Frame A) (g : Frame B) → BothFrames R f g → (m : A) (n : B) → R m n → (c : Cell) → R (closed a f m c) (closed b g n c)
-  cell_kept f g h m n r Empty = k.known false
   cell_kept f g h m n r Wire = k.known true
   cell_kept f g h m n r (Contact mode operand memory) = contact_kept mode _ _ _ _ (operand_kept f g h operand) r
   cell_kept f g h m n r (Coil mode var memory) = k.known true
-  cell_kept f g h m n r (Block inst) = k.known false
-  cell_kept f g h m n r (Lower inst linked) = k.known false
-  cell_kept f g h m n r (Jump target) = k.known false
-  cell_kept f g h m n r Return = k.known false
+  cell_kept f g h m n r _ = k.known false
 
   pub known_same : (x y : Bool) → x ≡ y → R (a.known x) (b.known y)
   known_same x y e = subst (λ (z : Bool). R (a.known x) (b.known z)) e (k.known x)
@@ -102,14 +98,8 @@ module _ {A B : Type 0} (a : Algebra A) (b : Algebra B) (R : A → B → Type 0)
       (k.choice _ _ _ _ _ _ r (k.choice _ _ _ _ _ _ w (k.known _) (k.known _)) (k.choice _ _ _ _ _ _ w (k.known _) (k.known _)))
 
   pub q_kept : (d : Diagram) (p h : Kept) (now : ℕ) (c : Cell) → AlikeCell p h c → (x y : A) (u v : B) → R x u → R y v → R (q_here a d p now c x y) (q_here b d h now c u v)
-  q_kept d p h now Empty e x y u v r s = k.known false
-  q_kept d p h now Wire e x y u v r s = k.known false
-  q_kept d p h now (Contact mode operand memory) e x y u v r s = k.known false
-  q_kept d p h now (Coil mode var memory) e x y u v r s = k.known false
   q_kept d p h now (Block inst) e x y u v r s = from_kept (d.kind inst) (d.preset inst) _ _ now e.1 x y u v r s
-  q_kept d p h now (Lower inst linked) e x y u v r s = k.known false
-  q_kept d p h now (Jump target) e x y u v r s = k.known false
-  q_kept d p h now Return e x y u v r s = k.known false
+  q_kept d p h now _ e x y u v r s = k.known false
 
   -- ---- one rung
   pub left_kept : (d : Diagram) (p h : Kept) (now j : ℕ) → Alike d j p h → (f : Frame A) (g : Frame B) → BothFrames R f g → (row column : ℕ) →

@@ -7,7 +7,7 @@ use Rattle.diagram_program.specs.declared.mode.Mode.TheVariants.{Plain, Negated,
 use Rattle.diagram_program.specs.declared.cell.Operand.{Operand}
 use Rattle.diagram_program.specs.declared.cell.Operand.TheVariants.{Var, Output}
 use Rattle.diagram_program.specs.declared.cell.Cell.{Cell}
-use Rattle.diagram_program.specs.declared.cell.Cell.TheVariants.{Empty, Wire, Contact, Coil, Block, Lower, Jump, Return}
+use Rattle.diagram_program.specs.declared.cell.Cell.TheVariants.{Wire, Contact, Coil, Block}
 use Rattle.scan_signals.specs.declared.block.Stored.{Stored}
 use Rattle.scan_signals.specs.Algebra.{Algebra, LatticeLaws}
 use Rattle.scan_cycle.specs.Routes.{join_all, left_link, routes, route_value}
@@ -17,7 +17,7 @@ use Rattle.scan_cycle.specs.Rung.{lower, circuit, link}
 use Rattle.scan_cycle.specs.Gating.{join_where, AreValues}
 use Rattle.scan_cycle.proofs.Flow.{left_link-next}
 
-no_column : (e : ℕ) → e < ROWS → e / ROWS ≡ 0
+pub no_column : (e : ℕ) → e < ROWS → e / ROWS ≡ 0
 no_column e h = omega arith
 
 module _ {S : Type 0} (o : Algebra S) (V : S → Type 0) (l : LatticeLaws S V o) where
@@ -36,28 +36,18 @@ module _ {S : Type 0} (o : Algebra S) (V : S → Type 0) (l : LatticeLaws S V o)
   contact-value Falling x m vx vm = l.meet_value _ _ (l.inverse_value x vx) vm
 
   pub closed-value : (f : Frame S) → AreValues o V f → (m : S) → V m → (c : Cell) → V (closed o f m c)
-  closed-value f h m vm Empty = l.known_value false
   closed-value f h m vm Wire = l.known_value true
   closed-value f h m vm (Contact mode operand memory) = contact-value mode _ m (operand-value f h operand) vm
   closed-value f h m vm (Coil mode var memory) = l.known_value true
-  closed-value f h m vm (Block inst) = l.known_value false
-  closed-value f h m vm (Lower inst linked) = l.known_value false
-  closed-value f h m vm (Jump target) = l.known_value false
-  closed-value f h m vm Return = l.known_value false
+  closed-value f h m vm _ = l.known_value false
 
   from-value : (kind : BlockKind) (preset : ℕ) (s : Stored) (now : ℕ) (x y : S) → V x → V y → V (q_from o kind preset s now x y)
   from-value kind preset s now x y vx vy =
       l.choice_value _ _ _ vx (l.choice_value _ _ _ vy (l.known_value _) (l.known_value _)) (l.choice_value _ _ _ vy (l.known_value _) (l.known_value _))
 
   pub q-value : (d : Diagram) (k : Kept) (now : ℕ) (c : Cell) (x y : S) → V x → V y → V (q_here o d k now c x y)
-  q-value d k now Empty x y vx vy = l.known_value false
-  q-value d k now Wire x y vx vy = l.known_value false
-  q-value d k now (Contact mode operand memory) x y vx vy = l.known_value false
-  q-value d k now (Coil mode var memory) x y vx vy = l.known_value false
   q-value d k now (Block inst) x y vx vy = from-value (d.kind inst) (d.preset inst) _ now x y vx vy
-  q-value d k now (Lower inst linked) x y vx vy = l.known_value false
-  q-value d k now (Jump target) x y vx vy = l.known_value false
-  q-value d k now Return x y vx vy = l.known_value false
+  q-value d k now _ x y vx vy = l.known_value false
 
   last_row : (b : Bool) (s x y : S) → (b ≡ true → x ≡ y) → cond b (o.join s x) s ≡ cond b (o.join s y) s
   last_row true s x y h = ap (o.join s) (h refl)

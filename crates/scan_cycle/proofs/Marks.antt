@@ -1,7 +1,6 @@
 -- The marks that are made rung by rung are those of the scan.
-use Rattle.std.proofs.Common.{◌≡◌, ◌∙◌, ℕ, ◌+◌, ◌-◌, ◌*◌, ◌<◌, ◌≤◌, ◌⊎◌, inl, inr, Bool, true, false, cond, List, [], ◌++◌, ◌∷◌, get_or, length, map, suc, zero, add-one, nat_lt, refl, ap, sym, subst, append-nil, append_assoc, length-append, arith}
-use Rattle.std.proofs.lemmas.Bool.{cases_lt}
-use Rattle.std.proofs.lemmas.Bool.Decides.{nat_tests}
+use Rattle.std.proofs.Common.{◌≡◌, ◌∙◌, ℕ, ◌+◌, ◌-◌, ◌*◌, ◌<◌, ◌≤◌, ◌⊎◌, inl, inr, Bool, false, cond, List, [], ◌++◌, ◌∷◌, get_or, length, map, suc, zero, add-one, refl, ap, sym, subst, append-nil, append_assoc, length-append, arith}
+use Rattle.std.proofs.lemmas.Bool.{cases_lt, lt-ltb, le-ltb}
 use Rattle.std.proofs.lemmas.List.{get_or_append_left, get_or-append_right}
 use Rattle.diagram_declarations.specs.Decls.{is_input}
 use Rattle.diagram_program.specs.declared.geometry.TheConstants.{ROWS, PLACES}
@@ -20,12 +19,6 @@ use Rattle.scan_cycle.specs.Marking.{mark_of, marks_below}
 use Rattle.scan_cycle.proofs.ByList.{next_after}
 use Rattle.scan_cycle.proofs.Rungs.{gone_through, passed_over}
 use Rattle.scan_cycle.proofs.Scanned.{rungs_back, inputs_back}
-
-is_less : (a b : ℕ) → a < b → nat_lt a b ≡ true
-is_less a b h = grind (arith, nat_tests)
-
-is_not_less : (a b : ℕ) → b ≤ a → nat_lt a b ≡ false
-is_not_less a b h = grind (arith, nat_tests)
 
 -- ---- place by place
 
@@ -60,14 +53,14 @@ pub marks_passed : (d : Diagram) (now : ℕ) (h : Held) (j : ℕ) → j < (scann
 unfolding marks_below by_case
 marks_passed d now h j lt =
     ap (marks_below d now h) (add-one j)
-    ∙ ap (λ b. marks_below d now h j ++ by_case d now j (scanned d now h j) b) (is_less j _ lt)
+    ∙ ap (λ b. marks_below d now h j ++ by_case d now j (scanned d now h j) b) (lt-ltb j _ lt)
 
 pub marks_seen : (d : Diagram) (now : ℕ) (h : Held) (j : ℕ) → (scanned d now h j).resume ≤ j
     → marks_below d now h (j + 1) ≡ marks_below d now h j ++ first_places (mark_in d now j (scanned d now h j).held) PLACES
 unfolding marks_below by_case
 marks_seen d now h j le =
     ap (marks_below d now h) (add-one j)
-    ∙ ap (λ b. marks_below d now h j ++ by_case d now j (scanned d now h j) b) (is_not_less j _ le)
+    ∙ ap (λ b. marks_below d now h j ++ by_case d now j (scanned d now h j) b) (le-ltb j _ le)
 
 pub marks_length : (d : Diagram) (now : ℕ) (h : Held) (n : ℕ) → length (marks_below d now h n) ≡ PLACES * n
 unfolding marks_below
@@ -175,9 +168,9 @@ marked d forward now first (suc k) place =
               between = (a.before, subst (λ (r : ℕ). j < r) a.resume over);
               leaves = a.held;
             },
-            ap by (is_less j s.resume over),
+            ap by (lt-ltb j s.resume over),
           )
-      | inr on ↦ inl (s.held, come d now first j s a (omega (arith, a.ahead, on)), ap by (is_not_less j s.resume on))
+      | inr on ↦ inl (s.held, come d now first j s a (omega (arith, a.ahead, on)), ap by (le-ltb j s.resume on))
     ]
 
 marks_from : (d : Diagram) → Forward d → (now : ℕ) (first : Held) → AreMarksFrom d now first (marks_below d now first d.rungs)
@@ -237,7 +230,7 @@ told : (d : Diagram) → Forward d → (now : ℕ) (first : Held) (j place : ℕ
     → m ≡ mark_of d now j (scanned d now first j) place
 told d forward now first j place m (inl (start, comes, e)) =
     let by = λ (b : Bool). cond b (mark_passed start (d.cell j place)) (mark_in d now j start place) in
-    e ∙ sym (ap (λ (s : Scanned). mark_of d now j s place) (at_rung d forward now first j start comes) ∙ ap by (is_not_less j j (omega arith)))
+    e ∙ sym (ap (λ (s : Scanned). mark_of d now j s place) (at_rung d forward now first j start comes) ∙ ap by (le-ltb j j (omega arith)))
 told d forward now first j place m (inr (kept, over, e)) =
     let by = λ (b : Bool). cond b (mark_passed (evaluated d now over.above over.start) (d.cell j place)) (mark_in d now j (evaluated d now over.above over.start) place) in
     let here = at_rung d forward now first over.above over.start over.comes in
@@ -245,7 +238,7 @@ told d forward now first j place m (inr (kept, over, e)) =
     e
     ∙ ap (λ (h : Held). mark_passed h (d.cell j place)) over.leaves
     ∙ sym (ap (λ (s : Scanned). mark_of d now j s place) (until_next d now first over.start over.above j here over.between.0 within)
-    ∙ ap by (is_less j (next_rung d now over.above over.start) over.between.1))
+    ∙ ap by (lt-ltb j (next_rung d now over.above over.start) over.between.1))
 
 pub one_sight : (d : Diagram) → Forward d → OneSight d
 one_sight d forward = λ now inputs h a b p q.

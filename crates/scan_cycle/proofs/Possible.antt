@@ -5,13 +5,14 @@ use Rattle.std.specs.Int.{w16}
 use Rattle.std.proofs.lemmas.Int.{ints}
 use Rattle.std.proofs.lemmas.Bool.Decides.{nat_tests}
 use Rattle.std.proofs.lemmas.List.{length-map}
+use Rattle.std.proofs.lemmas.Option.{same_Some}
 use Rattle.diagram_program.specs.declared.geometry.TheConstants.{PLACES}
 use Rattle.diagram_declarations.specs.declared.kind.BlockKind.{BlockKind}
 use Rattle.diagram_declarations.specs.declared.kind.BlockKind.TheVariants.{Ton, Tof, Tp, Ctu, Ctd, Sr, Rs}
 use Rattle.diagram_declarations.specs.declared.decls.Instance.{Instance}
 use Rattle.diagram_declarations.specs.Kind.{largest_preset}
 use Rattle.diagram_program.specs.declared.cell.Cell.{Cell}
-use Rattle.diagram_program.specs.declared.cell.Cell.TheVariants.{Empty, Wire, Contact, Coil, Block, Lower, Jump, Return}
+use Rattle.diagram_program.specs.declared.cell.Cell.TheVariants.{Block}
 use Rattle.scan_signals.specs.declared.block.Stored.{Stored}
 use Rattle.scan_signals.specs.declared.block.Stored.TheVariants.{Timer, Counter, Bistable}
 use Rattle.scan_signals.specs.Truth.{plain}
@@ -67,15 +68,12 @@ sound_shapes kinds blocks moment s = each_shape kinds blocks moment s.as_many s.
 pub sound_possible : (kinds : List BlockKind) (blocks : List Stored) (moment : ℕ) → AreSound kinds blocks moment → ArePossible moment blocks
 sound_possible kinds blocks moment s = each_possible kinds blocks moment s.as_many s.each
 
-some_same : {A : Type 0} {x y : A} → Some x ≡ Some y → x ≡ y
-some_same e = cc
-
 each_can : (kinds : List BlockKind) (blocks : List Stored) (moment : ℕ) → map shape blocks ≡ map new_block kinds → ArePossible moment blocks → EachCan kinds blocks moment
 each_can [] blocks moment s p i k b e f = cc
 each_can (x ∷ ks) [] moment s p i k b e f = cc
 each_can (x ∷ ks) (y ∷ bs) moment s p zero k b e f =
     let t : shape y ≡ new_block x = cc in
-    subst (λ z. CanStore z moment b) (some_same e) (subst (λ z. CanStore x moment z) (some_same f) (can_store x moment y t (p 0)))
+    subst (λ z. CanStore z moment b) (same_Some _ _ e) (subst (λ z. CanStore x moment z) (same_Some _ _ f) (can_store x moment y t (p 0)))
 each_can (x ∷ ks) (y ∷ bs) moment s p (suc i) k b e f =
     let t : map shape bs ≡ map new_block ks = cc in each_can ks bs moment t (λ j. p (suc j)) i k b e f
 
@@ -91,13 +89,11 @@ zero_fits : FitsSigned w16 (pos 0)
 zero_fits = grind (arith, ints, nat_tests)
 
 new_one : (kind : BlockKind) → IsPossible 0 (new_block kind)
-new_one Ton = (omega arith, λ e. refl)
-new_one Tof = (omega arith, λ e. refl)
-new_one Tp = (omega arith, λ e. refl)
 new_one Ctu = zero_fits
 new_one Ctd = zero_fits
 new_one Sr = tt
 new_one Rs = tt
+new_one _ = (omega arith, λ e. refl)
 
 new_possible : (instances : List Instance) → ArePossible 0 (map (λ i. new_block i.kind) instances)
 new_possible [] i = (omega arith, λ e. refl)
@@ -106,12 +102,7 @@ new_possible (x ∷ xs) (suc i) = new_possible xs i
 
 new_shape : (kind : BlockKind) → shape (new_block kind) ≡ new_block kind
 new_shape Ton = refl
-new_shape Tof = refl
-new_shape Tp = refl
-new_shape Ctu = refl
-new_shape Ctd = refl
-new_shape Sr = refl
-new_shape Rs = refl
+new_shape _ = refl
 
 new_shapes : (instances : List Instance) → map shape (map (λ i. new_block i.kind) instances) ≡ map new_block (map (λ i. i.kind) instances)
 new_shapes [] = refl
@@ -174,15 +165,6 @@ unfolding step
 step_possible Ton preset (Timer last running start q) on second now p h = ton_possible on _ _ now (below running start now now h.0 (omega arith))
 step_possible Tof preset (Timer last running start q) on second now p h = tof_possible on _ _ now (below last now start now (omega arith) h.0)
 step_possible Tp preset (Timer last running start q) on second now p h = tp_possible _ _ on start now h.0
-step_possible Ctu preset (Timer last running start q) on second now p h = h
-step_possible Ctd preset (Timer last running start q) on second now p h = h
-step_possible Sr preset (Timer last running start q) on second now p h = h
-step_possible Rs preset (Timer last running start q) on second now p h = h
-step_possible Ton preset (Counter last cv q) on second now p h = h
-step_possible Tof preset (Counter last cv q) on second now p h = h
-step_possible Tp preset (Counter last cv q) on second now p h = h
-step_possible Sr preset (Counter last cv q) on second now p h = h
-step_possible Rs preset (Counter last cv q) on second now p h = h
 step_possible Ctu preset (Counter last cv q) on second now p h = up_fits last on second cv h
 step_possible Ctd preset (Counter last cv q) on second now p h = down_fits preset last on second cv p h
 step_possible Ton preset (Bistable q) on second now p h = tt
@@ -192,6 +174,7 @@ step_possible Ctu preset (Bistable q) on second now p h = tt
 step_possible Ctd preset (Bistable q) on second now p h = tt
 step_possible Sr preset (Bistable q) on second now p h = tt
 step_possible Rs preset (Bistable q) on second now p h = tt
+step_possible _ preset _ on second now p h = h
 
 either_shape : (b : Bool) (x y z : Stored) → shape x ≡ z → shape y ≡ z → shape (cond b x y) ≡ z
 either_shape true x y z h k = h
@@ -204,7 +187,7 @@ tp_shape false true on start now = refl
 tp_shape false false on start now = refl
 
 -- a step keeps the shape
-step_shape : (kind : BlockKind) (preset : ℕ) (s : Stored) (on second : Bool) (now : ℕ) → shape (step kind preset s on second now) ≡ shape s
+pub step_shape : (kind : BlockKind) (preset : ℕ) (s : Stored) (on second : Bool) (now : ℕ) → shape (step kind preset s on second now) ≡ shape s
 unfolding step
 step_shape Ton preset (Timer last running start q) on second now = either_shape on _ _ _ refl refl
 step_shape Tof preset (Timer last running start q) on second now = either_shape on _ _ _ refl refl
@@ -213,20 +196,7 @@ step_shape Ctu preset (Timer last running start q) on second now = refl
 step_shape Ctd preset (Timer last running start q) on second now = refl
 step_shape Sr preset (Timer last running start q) on second now = refl
 step_shape Rs preset (Timer last running start q) on second now = refl
-step_shape Ton preset (Counter last cv q) on second now = refl
-step_shape Tof preset (Counter last cv q) on second now = refl
-step_shape Tp preset (Counter last cv q) on second now = refl
-step_shape Sr preset (Counter last cv q) on second now = refl
-step_shape Rs preset (Counter last cv q) on second now = refl
-step_shape Ctu preset (Counter last cv q) on second now = refl
-step_shape Ctd preset (Counter last cv q) on second now = refl
-step_shape Ton preset (Bistable q) on second now = refl
-step_shape Tof preset (Bistable q) on second now = refl
-step_shape Tp preset (Bistable q) on second now = refl
-step_shape Ctu preset (Bistable q) on second now = refl
-step_shape Ctd preset (Bistable q) on second now = refl
-step_shape Sr preset (Bistable q) on second now = refl
-step_shape Rs preset (Bistable q) on second now = refl
+step_shape _ preset _ on second now = refl
 
 pub set_possible : (now : ℕ) (bs : List Stored) (n : ℕ) (s : Stored) → ArePossible now bs → IsPossible now s → ArePossible now (set bs n s)
 set_possible now [] n s h t i = h i
@@ -254,24 +224,12 @@ set_shapes bs kinds n s e h = set_shape bs n s (h ∙ sym (same_shape bs kinds n
 
 cell_possible : (d : Diagram) → IsSound d → (now : ℕ) (k : Kept) (c : Cell) (x y : Bool) → ArePossible now k.blocks
     → ArePossible now (put_in k.blocks (block_in c) (stepped d now c (stored_of k c) x y))
-cell_possible d w now k Empty x y h = h
-cell_possible d w now k Wire x y h = h
-cell_possible d w now k (Contact mode operand memory) x y h = h
-cell_possible d w now k (Coil mode var memory) x y h = h
 cell_possible d w now k (Block inst) x y h = set_possible now k.blocks inst _ h (step_possible (d.kind inst) (d.preset inst) _ x y now (w.presets inst) (h inst))
-cell_possible d w now k (Lower inst linked) x y h = h
-cell_possible d w now k (Jump target) x y h = h
-cell_possible d w now k Return x y h = h
+cell_possible d w now k _ x y h = h
 
 cell_shapes : (d : Diagram) (now : ℕ) (k : Kept) (c : Cell) (x y : Bool) → map shape (put_in k.blocks (block_in c) (stepped d now c (stored_of k c) x y)) ≡ map shape k.blocks
-cell_shapes d now k Empty x y = refl
-cell_shapes d now k Wire x y = refl
-cell_shapes d now k (Contact mode operand memory) x y = refl
-cell_shapes d now k (Coil mode var memory) x y = refl
 cell_shapes d now k (Block inst) x y = set_shape k.blocks inst _ (step_shape (d.kind inst) (d.preset inst) (get_or k.blocks inst (new_block Ton)) x y now)
-cell_shapes d now k (Lower inst linked) x y = refl
-cell_shapes d now k (Jump target) x y = refl
-cell_shapes d now k Return x y = refl
+cell_shapes d now k _ x y = refl
 
 changes_possible : (d : Diagram) → IsSound d → (now j : ℕ) (start : Frame Bool) (links : ℕ → Bool) (n : ℕ) (h : Held)
     → ArePossible now h.kept.blocks → ArePossible now (changes d now j start links n h).kept.blocks

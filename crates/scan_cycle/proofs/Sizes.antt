@@ -16,12 +16,10 @@ size-put_in xs None x = refl
 size-put_in xs (Some i) x = length-set xs i x
 
 pub size-given : {S : Type 0} (flags : List Bool) (xs values : List S) → length (given flags xs values) ≡ length values
-size-given [] xs values = refl
-size-given (true ∷ flags) xs [] = refl
 size-given (true ∷ flags) [] (v ∷ values) = ap suc (size-given flags [] values)
 size-given (true ∷ flags) (x ∷ xs) (v ∷ values) = ap suc (size-given flags xs values)
-size-given (false ∷ flags) xs [] = refl
 size-given (false ∷ flags) xs (v ∷ values) = ap suc (size-given flags xs values)
+size-given _ xs _ = refl
 
 size_changes : (d : Diagram) (now j : ℕ) (start : Frame Bool) (links : ℕ → Bool) (n : ℕ) (h : Held) → SameLengths (changes d now j start links n h) h
 unfolding changes

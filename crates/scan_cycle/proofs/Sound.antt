@@ -7,21 +7,19 @@ use Rattle.scan_cycle.specs.Cells.{place_at}
 use Rattle.diagram_declarations.specs.declared.decls.Instance.{Instance}
 use Rattle.diagram_declarations.specs.Decls.{AreInRange}
 use Rattle.diagram_declarations.specs.Kind.{largest_preset}
-use Rattle.std.proofs.lemmas.Option.{get_or_from_slice_get, slice_get_within}
+use Rattle.std.proofs.lemmas.Option.{get_or_from_slice_get, slice_get_within, none-some}
+use Rattle.std.proofs.lemmas.Bool.{and_parts}
 use Rattle.diagram_program.specs.declared.geometry.TheConstants.{ROWS, PLACES}
 use Rattle.diagram_program.specs.declared.cell.Cell.{Cell}
-use Rattle.diagram_program.specs.declared.cell.Cell.TheVariants.{Empty, Wire, Contact, Coil, Block, Lower, Jump, Return}
+use Rattle.diagram_program.specs.declared.cell.Cell.TheVariants.{Empty}
 use Rattle.diagram_program.specs.Program.{Drawing, cell_of, goes_to, jump_of, memory_in, block_in, IsWellFormed, is_linked}
 use Rattle.scan_cycle.specs.Laws.{Once, Forward}
 use Rattle.scan_cycle.specs.Programs.{cell_at, diagram_of, is_filled, IsSound}
 use Rattle.diagram_program.proofs.JumpLaws.{jump_placed}
-use Rattle.scan_cycle.proofs.Feeders.{both_true, cell_is}
+use Rattle.scan_cycle.proofs.Feeders.{cell_is}
 
 off_on : false ≡ true → ⊥
 off_on h = cc
-
-none_some : {A : Type 0} {x : A} → None ≡ Some x → ⊥
-none_some h = cc
 
 -- ---- a cell that has a memory or an instance stands within its rung
 within : (e : ℕ) → nat_lt e PLACES ≡ true → e < PLACES
@@ -30,11 +28,11 @@ within e h = grind (arith, nat_tests)
 -- what holds of a place where something stands
 memory_here : (p : Drawing) (j e i : ℕ) (b : Bool) → nat_lt e PLACES ≡ b → memory_in (cond b (cell_of p j e) Empty) ≡ Some i → (e < PLACES) × (memory_in (cell_of p j e) ≡ Some i)
 memory_here p j e i true t h = (within e t, h)
-memory_here p j e i false t h = absurd (none_some h)
+memory_here p j e i false t h = absurd (none-some _ h)
 
 block_here : (p : Drawing) (j e i : ℕ) (b : Bool) → nat_lt e PLACES ≡ b → block_in (cond b (cell_of p j e) Empty) ≡ Some i → (e < PLACES) × (block_in (cell_of p j e) ≡ Some i)
 block_here p j e i true t h = (within e t, h)
-block_here p j e i false t h = absurd (none_some h)
+block_here p j e i false t h = absurd (none-some _ h)
 
 same_rung : (j e h g : ℕ) → e < PLACES → g < PLACES → PLACES * j + e ≡ PLACES * h + g → (j ≡ h) × (e ≡ g)
 same_rung j e h g e60 g60 s = (omega arith, omega arith)
@@ -58,17 +56,11 @@ row_is e h = grind (arith, nat_tests)
 
 linked_filled : (c : Cell) → is_linked c ≡ true → is_filled c ≡ true
 linked_filled Empty h = absurd (off_on h)
-linked_filled Wire h = refl
-linked_filled (Contact mode operand memory) h = refl
-linked_filled (Coil mode var memory) h = refl
-linked_filled (Block inst) h = refl
-linked_filled (Lower inst linked) h = refl
-linked_filled (Jump target) h = refl
-linked_filled Return h = refl
+linked_filled _ h = refl
 
 linked : (p : Drawing) (j e : ℕ) → (nat_lt (e % ROWS + 1) ROWS && is_linked (cell_at p j (e + 1))) ≡ true → (e % ROWS + 1 < ROWS) × (is_filled (cell_at p j (e + 1)) ≡ true)
 linked p j e h =
-    let w : (nat_lt (e % ROWS + 1) ROWS ≡ true) × (is_linked (cell_at p j (e + 1)) ≡ true) = both_true _ _ h in
+    let w : (nat_lt (e % ROWS + 1) ROWS ≡ true) × (is_linked (cell_at p j (e + 1)) ≡ true) = and_parts _ _ h in
     (row_is e w.0, linked_filled (cell_at p j (e + 1)) w.1)
 
 -- ---- jumps
@@ -82,7 +74,7 @@ same_parts a b h = (cc, cc)
 -- the jump is at a place whose cell leads to its target
 jump_found : (p : Drawing) (j : ℕ) (found : Option (ℕ × ℕ × ℕ)) (place target : ℕ) → jump_of p j ≡ found → placed found ≡ Some (place, target)
     → (place < PLACES) × (goes_to p.rungs (cell_of p j place) ≡ Some target)
-jump_found p j None place target is e = absurd (none_some e)
+jump_found p j None place target is e = absurd (none-some _ e)
 jump_found p j (Some k) place target is e =
     let stands = jump_placed p j k is in
     let same = same_parts (place_at k.0 k.1, k.2) (place, target) e in
@@ -99,14 +91,8 @@ forward p w j place target e =
     (w.jumps_down j place target at.0 at.1).0
 
 leads_filled : (rungs target : ℕ) (c : Cell) → goes_to rungs c ≡ Some target → is_filled c ≡ true
-leads_filled rungs target Empty h = absurd (none_some h)
-leads_filled rungs target Wire h = refl
-leads_filled rungs target (Contact mode operand memory) h = refl
-leads_filled rungs target (Coil mode var memory) h = refl
-leads_filled rungs target (Block inst) h = refl
-leads_filled rungs target (Lower inst linked) h = refl
-leads_filled rungs target (Jump to) h = refl
-leads_filled rungs target Return h = refl
+leads_filled rungs target Empty h = absurd (none-some _ h)
+leads_filled rungs target _ h = refl
 
 jumps : (p : Drawing) (j place target : ℕ) → (diagram_of p).jump j ≡ Some (place, target)
     → (place < PLACES) × (is_filled ((diagram_of p).cell j place) ≡ true)

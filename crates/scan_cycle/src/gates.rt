@@ -28,7 +28,8 @@ pub fn link_at<S: Operations>(links: &[S], place: usize) -> S
     }
 }
 
-/// What a cell that is no block lets through by itself, by what its memory stores.
+/// Whether a cell lets its left link through by itself: ON for a wire and a coil, and for a contact that is closed by what it sees
+/// and by its memory.
 pub fn closed<S: Operations>(cell: Cell, seen: &Image<S>, memory: S) -> S
     ensures { result ≡ closed S.algebra seen.now memory cell }
 {
@@ -48,6 +49,7 @@ pub fn closed<S: Operations>(cell: Cell, seen: &Image<S>, memory: S) -> S
     }
 }
 
+/// The Q of a block after one step with inputs that are truth values.
 fn q_after(
     kind: BlockKind,
     preset: u32,
@@ -104,22 +106,17 @@ pub fn through_cell<S: Operations>(
     requires program { IsSound (diagram_of scene.program.now) }
     ensures { result ≡ own S.algebra (diagram_of scene.entry.program.now) storage.now.kept scene.entry.now seen.now cell left below }
 {
-    match cell {
-        Cell::Block { inst } => {
+    match cell.block() {
+        Some(inst) => {
             let (kind, preset) = instance(scene.program, inst);
             q_from(kind, preset, storage.stored(inst), scene.now, left, below)
         }
-        Cell::Empty
-        | Cell::Wire
-        | Cell::Contact { .. }
-        | Cell::Coil { .. }
-        | Cell::Lower { .. }
-        | Cell::Jump { .. }
-        | Cell::Return => left.and(closed(cell, seen, S::known(storage.memory(cell)))),
+        None => left.and(closed(cell, seen, S::known(storage.memory(cell)))),
     }
 }
 
-/// What a gate lets through as its cell says; it is kept, since the Q of a block is read again. Out of line, for it is rare.
+/// What a gate lets through that isn't a plain contact, as its cell says; it is kept, since the Q of a block is read again. Out of
+/// line, for it is rare.
 #[inline(never)]
 fn own<S: Operations>(
     scene: Scene<'_>,
@@ -144,8 +141,8 @@ fn own<S: Operations>(
     through
 }
 
-/// The links after one gate; `values` are those of what contacts see.
-fn pass<S: Operations>(
+/// Finds the link that one gate gives, and keeps it with the links; `values` are those of what contacts see.
+fn pass_gate<S: Operations>(
     scene: Scene<'_>,
     storage: &Storage,
     seen: &Image<S>,
@@ -170,10 +167,10 @@ fn pass<S: Operations>(
     links[gate.place as usize] = through.or(other);
 }
 
-/// The links after the gates of a rung.
+/// Finds the links that the gates of a rung give, one gate after the other.
 #[inline(always)]
 #[tactic(auto, using(crate::proofs::GateLaws::run_step))]
-fn run<S: Operations>(scene: Scene<'_>, storage: &Storage, seen: &Image<S>, links: &mut [S])
+fn pass_gates<S: Operations>(scene: Scene<'_>, storage: &Storage, seen: &Image<S>, links: &mut [S])
     requires rung { scene.rung < scene.program.now.rungs }
     requires gates { All IsInside (gates_of scene.program.now scene.rung) }
     requires links { length links.old ≡ LINKS }
@@ -183,11 +180,11 @@ fn run<S: Operations>(scene: Scene<'_>, storage: &Storage, seen: &Image<S>, link
 {
     let values = &seen.values[..];
     for gate in scene.program.gates(scene.rung) {
-        pass(scene, storage, seen, values, gate, links);
+        pass_gate(scene, storage, seen, values, gate, links);
     }
 }
 
-/// Puts ON and OFF where the gates look for them.
+/// Writes ON and OFF at the two places where gates that depend on no other cell look for their links.
 pub fn set_rails<S: Operations>(links: &mut [S])
     requires { length links.old ≡ LINKS }
     ensures length { length links.new ≡ LINKS }
@@ -198,7 +195,7 @@ pub fn set_rails<S: Operations>(links: &mut [S])
     links[OFF] = S::known(false);
 }
 
-/// Finds the links of a rung.
+/// Finds the links of a rung, which are its power flow.
 #[inline(always)]
 pub fn find_links<S: Signal>(scene: Scene<'_>, storage: &Storage, seen: &Image<S>, links: &mut [S])
     requires rung { scene.rung < scene.program.now.rungs }
@@ -209,5 +206,5 @@ pub fn find_links<S: Signal>(scene: Scene<'_>, storage: &Storage, seen: &Image<S
     ensures links { AreLinks S.algebra scene.entry.program.now storage.now.kept scene.entry.now scene.entry.rung seen.now links.new }
 {
     set_rails(links);
-    run(scene, storage, seen, links);
+    pass_gates(scene, storage, seen, links);
 }

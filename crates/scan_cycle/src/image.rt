@@ -47,7 +47,7 @@ impl<S: Operations> Image<S> {
         })
     }
 
-    /// Takes all that is stored.
+    /// Takes the values and Qs that a state stores for what contacts see.
     pub fn know(&mut self, storage: &Storage)
         requires { SameSizes self.old storage.now }
         ensures { self.new ≡ frame (map S.algebra.known storage.now.values) (map (λ b. S.algebra.known (q_of b)) storage.now.kept.blocks) }
@@ -83,7 +83,7 @@ impl<S: Operations> Image<S> {
         }
     }
 
-    /// The signal of what a contact reads.
+    /// The signal of what a contact reads: a variable, or the Q of an instance.
     pub fn operand(&self, operand: Operand) -> S
         ensures { result ≡ operand_value S.algebra self.now operand }
     {
@@ -112,7 +112,7 @@ impl<S: Operations> Image<S> {
     }
 }
 
-/// Stored values or Qs as signals.
+/// Writes stored values or Qs as signals.
 fn know_each<S: Operations>(stored: &[bool], signals: &mut [S])
     requires { length signals.old ≡ length stored.now }
     ensures { signals.new ≡ map S.algebra.known stored.now }
@@ -122,7 +122,7 @@ fn know_each<S: Operations>(stored: &[bool], signals: &mut [S])
     }
 }
 
-/// What contacts see from the start of a rung on.
+/// What contacts see from the start of a rung on: a copy of the values and Qs.
 pub fn copy_start(storage: &Storage, start: &mut Image<bool>)
     requires { SameSizes start.old storage.now }
     ensures { start.new ≡ frame_of storage.now }
@@ -132,7 +132,7 @@ pub fn copy_start(storage: &Storage, start: &mut Image<bool>)
 }
 
 impl Storage {
-    /// A buffer for what contacts see.
+    /// A buffer for what contacts see of this storage.
     pub(crate) fn room(&self, alloc: Global) -> Result<Image<bool>, Memory>
         ensures { IfOk result (λ f. SameSizes f self.now) }
     {

@@ -7,6 +7,7 @@ ghost use Rattle.scan_cycle.specs.Scan.{given};
 use diagram_declarations::{Decls, Var};
 use scan_signals::Operations;
 
+/// Whether the variable of this number is an input.
 fn is_input_at(vars: &[Var], number: usize) -> bool
     ensures { result ≡ slice_index_or (map is_input vars.now) number false }
 {
@@ -16,6 +17,7 @@ fn is_input_at(vars: &[Var], number: usize) -> bool
     }
 }
 
+/// Gives the inputs their values by one copy, where they are the first variables.
 fn give_leading<S: Operations>(inputs: &[S], values: &mut [S])
     requires { length inputs.now ≤ length values.old }
     ensures { values.new ≡ inputs.now ++ drop (length inputs.now) values.old }
@@ -35,7 +37,7 @@ pub fn give<S: Operations>(decls: &Decls, inputs: &[S], values: &mut [S])
     give_each(decls.vars(), inputs, values);
 }
 
-/// Goes over all variables, inputs or not.
+/// Gives the inputs their values one by one, where they are declared among other variables.
 fn give_each<S: Operations>(vars: &[Var], inputs: &[S], values: &mut [S])
     ensures { values.new ≡ given (map is_input vars.now) inputs.now values.old }
 {

@@ -14,7 +14,7 @@ pub fn scan_follows_jumps(program: &Program)
     checked(program);
 }
 
-/// A scan has one list of marks.
+/// A scan shows one thing at each place: there is one list of marks of it.
 pub fn one_sight(program: &Program)
     ensures { OneSight (diagram_of program.now) }
 {

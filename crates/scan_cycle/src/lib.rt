@@ -1,4 +1,8 @@
 //! The scan of a ladder diagram: how power flows through a rung, what its cells do, and the state after one scan.
+//!
+//! The modules `effects`, `gates`, `image`, `inputs`, `scanning`, `scene` and `storage` are public for looks and for the other scans,
+//! which evaluate the same cells: over any signal, over a partly known state, or only where something changed. `laws` is public for
+//! callers who reason about scans.
 #![tactic(auto)]
 
 pub mod effects;

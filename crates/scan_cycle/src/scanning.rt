@@ -25,7 +25,7 @@ use diagram_program::gates::LINKS;
 #[derive(Clone, Copy, Debug, PartialEq, Eq)]
 pub struct MomentBack;
 
-/// The rung after an evaluated one, by the left links that it had.
+/// The number of the rung that comes after an evaluated one: the next one, or the one that its jump or return goes to.
 pub fn rung_after(program: &Program, rung: usize, links: &[bool]) -> usize
     requires rung { rung < program.now.rungs }
     requires few { rung < RUNGS }
@@ -86,7 +86,7 @@ fn scan_rungs(program: &Program, now: u64, storage: &mut Storage, start: &mut Im
     }
 }
 
-/// Gives the inputs, and evaluates the rungs.
+/// Gives the inputs their values, and evaluates the rungs from top to bottom.
 fn scan_storage(
     program: &Program,
     now: u64,

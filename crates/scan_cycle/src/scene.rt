@@ -24,7 +24,7 @@ pub fn checked(program: &Program)
     let _instances = program.decls().instances();
 }
 
-/// The kind and the preset of an instance.
+/// The kind and the preset of an instance, by its number.
 #[tactic(auto, unfolding(crate::specs::Programs::diagram_of))]
 pub fn instance(program: &Program, inst: usize) -> (BlockKind, u32)
     ensures kind { result.0 ≡ (diagram_of program.now).kind inst }
@@ -36,7 +36,7 @@ pub fn instance(program: &Program, inst: usize) -> (BlockKind, u32)
     }
 }
 
-/// The cell at a place of a rung, by column and row.
+/// The cell at a place of a rung; places go by column and row.
 #[tactic(auto, unfolding(crate::specs::Programs::diagram_of))]
 pub fn cell(program: &Program, rung: usize, place: usize) -> Cell
     requires rung { rung < program.now.rungs }

@@ -39,6 +39,7 @@ pub struct Mark {
     pub on: bool,
 }
 
+/// What is shown of a cell as being ON: a closed contact, the value of a coil's variable, the output of a block.
 fn is_on(closed: bool, after: &Storage, cell: Cell) -> bool
     ensures { result ≡ is_on closed after.now cell }
 {
@@ -50,7 +51,7 @@ fn is_on(closed: bool, after: &Storage, cell: Cell) -> bool
     }
 }
 
-/// Adds the places of a rung that was evaluated.
+/// Adds the marks of the places of a rung that was evaluated.
 fn add_seen(
     scene: Scene<'_>,
     before: &Storage,
@@ -82,7 +83,7 @@ fn add_seen(
     Ok(())
 }
 
-/// Adds the places of a rung that is passed over.
+/// Adds the marks of the places of a rung that a jump passes over.
 fn add_passed(scene: Scene<'_>, held: &Storage, marks: &mut Vec<Mark>) -> Result<(), AllocError>
     requires rung { scene.rung < scene.program.now.rungs }
     ensures { IfOk result (λ _. marks.new.items ≡ marks.old.items
@@ -100,7 +101,7 @@ fn add_passed(scene: Scene<'_>, held: &Storage, marks: &mut Vec<Mark>) -> Result
     Ok(())
 }
 
-/// Evaluates a rung and adds its places. Returns the rung after it.
+/// Evaluates a rung and adds the marks of its places. Returns the rung after it.
 fn see_rung(
     alloc: Global,
     scene: Scene<'_>,
@@ -126,7 +127,7 @@ fn see_rung(
     Ok(next)
 }
 
-/// Goes from rung to rung, and adds the places of each.
+/// Goes from rung to rung, and adds the marks of each.
 fn see_rungs(
     alloc: Global,
     program: &Program,
@@ -154,7 +155,7 @@ fn see_rungs(
     Ok(marks)
 }
 
-/// Gives the inputs, evaluates the rungs and adds their places.
+/// Gives the inputs their values, evaluates the rungs and adds the marks of their places.
 fn see_storage(
     alloc: Global,
     program: &Program,

@@ -42,6 +42,7 @@ impl Model for State {
     ghost invariant = { λ s. SameSizes s.start s.storage × AreSound s.kinds.items s.storage.kept.blocks s.moment };
 }
 
+/// The kinds of the instances, by which a state is compared with a program.
 fn kinds(alloc: Global, instances: &[Instance]) -> Result<Vec<BlockKind>, AllocError>
     ensures { IfOk result (λ v. v.items ≡ map (λ i. i.kind) instances.now) }
 {
@@ -51,6 +52,7 @@ fn kinds(alloc: Global, instances: &[Instance]) -> Result<Vec<BlockKind>, AllocE
         .collect(alloc)
 }
 
+/// Whether a state was made for instances of these kinds, in this order.
 fn same_kinds(kinds: &[BlockKind], instances: &[Instance]) -> bool
     ensures { IsTrue result ↔ (kinds.now ≡ map (λ i. i.kind) instances.now) }
 {
@@ -86,7 +88,7 @@ impl State {
         })
     }
 
-    /// An equal state.
+    /// A copy of the state with buffers of its own.
     ///
     /// # Errors
     ///
@@ -184,7 +186,7 @@ impl State {
         self.storage.value(var)
     }
 
-    /// Writes a variable, by its number in order of declaration.
+    /// Sets the value of a variable, by its number in order of declaration.
     pub fn set_value(&mut self, var: usize, value: bool)
         requires { var < length self.old.held.values }
         ensures { self.new ≡ with_values self.old (set self.old.held.values var value) }
@@ -192,7 +194,7 @@ impl State {
         self.storage.put_value(var, value);
     }
 
-    /// Writes a memory, by its number in the program.
+    /// Sets a memory of an edge, by its number in the program.
     pub fn set_memory(&mut self, number: usize, value: bool)
         requires { number < length self.old.held.kept.memories }
         ensures { self.new ≡ with_memories self.old (set self.old.held.kept.memories number value) }
@@ -208,7 +210,7 @@ impl State {
         self.moment = moment;
     }
 
-    /// Writes what an instance stores, by its number in order of declaration: what belongs to its kind and is possible at the moment.
+    /// Sets what an instance stores, by its number in order of declaration: what belongs to its kind and is possible at the moment.
     pub fn set_block(&mut self, inst: usize, stored: Stored)
         requires range { inst < length self.old.held.kept.blocks }
         requires stored { CanStore (slice_index_or self.old.kinds inst Ton) self.old.moment stored }

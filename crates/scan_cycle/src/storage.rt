@@ -39,12 +39,14 @@ impl Model for Storage {
     ghost invariant = { λ s. s.outputs.items ≡ map q_of s.blocks.items };
 }
 
+/// The initial values of the variables, as they are declared.
 fn initial_values(alloc: Global, vars: &[Var]) -> Result<Vec<bool>, AllocError>
     ensures { IfOk result (λ v. v.items ≡ map (λ v. v.initial) vars.now) }
 {
     vars.iter().map(|var| var.initial).collect(alloc)
 }
 
+/// What the instances store before the first scan.
 fn new_blocks(alloc: Global, instances: &[Instance]) -> Result<Vec<Stored>, AllocError>
     ensures { IfOk result (λ v. v.items ≡ map (λ i. new_block i.kind) instances.now) }
 {
@@ -54,6 +56,7 @@ fn new_blocks(alloc: Global, instances: &[Instance]) -> Result<Vec<Stored>, Allo
         .collect(alloc)
 }
 
+/// The outputs of the instances, kept beside what they store, so that contacts read them at once.
 fn outputs(alloc: Global, blocks: &[Stored]) -> Result<Vec<bool>, AllocError>
     ensures { IfOk result (λ v. v.items ≡ map q_of blocks.now) }
 {
@@ -76,6 +79,7 @@ impl Storage {
         })
     }
 
+    /// A copy with buffers of its own.
     pub(crate) fn copy(&self, alloc: Global) -> Result<Storage, Memory>
         ensures { IfOk result (λ s. s ≡ self.now) }
     {
@@ -115,7 +119,7 @@ impl Storage {
         }
     }
 
-    /// A memory, and OFF past the last one.
+    /// The memory of an edge by its number, and OFF past the last one.
     pub fn memory_at(&self, number: usize) -> bool
         ensures { result ≡ slice_index_or self.now.kept.memories number false }
     {
@@ -159,7 +163,7 @@ impl Storage {
         }
     }
 
-    /// Writes a variable; past the last one there is none.
+    /// Writes a variable; past the last one nothing is written.
     pub(crate) fn put_value(&mut self, var: usize, value: bool)
         ensures { self.new ≡ held (slice_set self.old.values var value) self.old.kept.memories self.old.kept.blocks }
     {
@@ -177,7 +181,7 @@ impl Storage {
         }
     }
 
-    /// Writes a memory; past the last one there is none.
+    /// Writes a memory; past the last one nothing is written.
     pub(crate) fn put_memory(&mut self, number: usize, memory: bool)
         ensures { self.new ≡ held self.old.values (slice_set self.old.kept.memories number memory) self.old.kept.blocks }
     {
@@ -186,7 +190,7 @@ impl Storage {
         }
     }
 
-    /// Writes what an instance stores; past the last one there is none.
+    /// Writes what an instance stores, and with it its output; past the last one nothing is written.
     pub(crate) fn put_block(&mut self, inst: usize, stored: Stored)
         ensures { self.new ≡ held self.old.values self.old.kept.memories (slice_set self.old.kept.blocks inst stored) }
     {

@@ -2,6 +2,7 @@
 -- the time between; so the relation of starts is one to one, which merges need.
 use Rattle.std.proofs.Common.{◌≡◌, ◌∙◌, ◌⊎◌, inl, inr, ℕ, suc, ◌+◌, ◌-◌, ◌≤◌, Bool, true, false, List, [], ◌∷◌, length, get_or, refl, sym, ap, subst, nat_eq, nat_lt, nat_le, arith}
 use Rattle.std.proofs.lemmas.Bool.Decides.{nat_tests}
+use Rattle.std.proofs.lemmas.Bool.{eqb-true, eqb-false}
 use Rattle.scan_signals.specs.declared.block.Stored.{Stored}
 use Rattle.scan_signals.specs.declared.block.Stored.TheVariants.{Timer, Counter, Bistable}
 use Rattle.scan_signals.specs.Relations.{Both}
@@ -24,19 +25,13 @@ off_on h = cc
 abbrev RunBy : ℕ → ℕ → ℕ → ℕ → ℕ → ℕ → Type 0
 RunBy moment shift a b s t = ((s ≡ a) × (t ≡ b)) ⊎ ((moment ≤ s) × (t ≡ s + shift))
 
-same_numbers : (a b : ℕ) → nat_eq a b ≡ true → a ≡ b
-same_numbers a b h = grind (arith, nat_tests)
-
-not_same : (a b : ℕ) → nat_eq a b ≡ false → a ≡ b → ⊥
-not_same a b h e = grind (arith, nat_tests)
-
 same_test : (s t s2 t2 : ℕ) → (s ≡ t → s2 ≡ t2) → (s2 ≡ t2 → s ≡ t) → nat_eq s2 t2 ≡ nat_eq s t
 same_test s t s2 t2 f g = from (nat_eq s t) refl (nat_eq s2 t2) refl
   where
     from : (b : Bool) → nat_eq s t ≡ b → (c : Bool) → nat_eq s2 t2 ≡ c → nat_eq s2 t2 ≡ nat_eq s t
     from true e true k = k ∙ sym e
-    from true e false k = absurd (not_same s2 t2 k (f (same_numbers s t e)))
-    from false e true k = absurd (not_same s t e (g (same_numbers s2 t2 k)))
+    from true e false k = absurd (eqb-false s2 t2 k (f (eqb-true s t e)))
+    from false e true k = absurd (eqb-false s t e (g (eqb-true s2 t2 k)))
     from false e false k = k ∙ sym e
 
 -- ---- the starts of one instance
@@ -119,26 +114,18 @@ module _ (preset moment shift : ℕ) where
   pair_stored (Timer l true s q) (Timer l2 false s2 q2) h = absurd (off_on h.1)
   pair_stored (Timer l false s q) (Timer l2 true s2 q2) h = absurd (off_on (sym h.1))
   pair_stored (Timer l false s q) (Timer l2 false s2 q2) h = none_run
-  pair_stored (Timer l r s q) (Counter l2 v2 q2) h = absurd h
-  pair_stored (Timer l r s q) (Bistable q2) h = absurd h
-  pair_stored (Counter l v q) (Timer l2 r2 s2 q2) h = absurd h
   pair_stored (Counter l v q) (Counter l2 v2 q2) h = none_run
-  pair_stored (Counter l v q) (Bistable q2) h = absurd h
-  pair_stored (Bistable q) (Timer l2 r2 s2 q2) h = absurd h
-  pair_stored (Bistable q) (Counter l2 v2 q2) h = absurd h
   pair_stored (Bistable q) (Bistable q2) h = none_run
+  pair_stored _ _ h = absurd h
 
   pair_alike : (x y : Partly) → PartlyAlike (StartAlike preset moment shift) x y → StartAlike preset moment shift (start_of 0 x) (start_of shift y)
   unfolding start_of
   pair_alike (Exactly s) (Exactly t) h = pair_stored s t h
-  pair_alike (Exactly s) (SomeTimer r) h = cc
-  pair_alike (Exactly s) (SomeCounter r) h = cc
-  pair_alike (Exactly s) (SomeBistable r) h = cc
-  pair_alike (Exactly s) Anything h = cc
   pair_alike (SomeTimer q) y h = subst (λ (z : Partly). StartAlike preset moment shift 0 (start_of shift z)) (sym h) none_run
   pair_alike (SomeCounter q) y h = subst (λ (z : Partly). StartAlike preset moment shift 0 (start_of shift z)) (sym h) none_run
   pair_alike (SomeBistable q) y h = subst (λ (z : Partly). StartAlike preset moment shift 0 (start_of shift z)) (sym h) none_run
   pair_alike Anything y h = subst (λ (z : Partly). StartAlike preset moment shift 0 (start_of shift z)) (sym h) none_run
+  pair_alike _ _ h = cc
 
   by_stored : (s t : Stored) → StoredAlike (StartAlike preset moment shift) s t
       → StoredAlike (RunBy moment shift (start_of 0 (Exactly s)) (start_of shift (Exactly t))) s t
@@ -146,49 +133,25 @@ module _ (preset moment shift : ℕ) where
   by_stored (Timer l true s q) (Timer l2 true s2 q2) h = (h.0, h.1, h.2, λ g. inl (refl, refl), h.4)
   by_stored (Timer l true s q) (Timer l2 false s2 q2) h = absurd (off_on h.1)
   by_stored (Timer l false s q) (Timer l2 r2 s2 q2) h = (h.0, h.1, h.2, λ g. absurd (off_on g), h.4)
-  by_stored (Timer l r s q) (Counter l2 v2 q2) h = absurd h
-  by_stored (Timer l r s q) (Bistable q2) h = absurd h
-  by_stored (Counter l v q) (Timer l2 r2 s2 q2) h = absurd h
   by_stored (Counter l v q) (Counter l2 v2 q2) h = h
-  by_stored (Counter l v q) (Bistable q2) h = absurd h
-  by_stored (Bistable q) (Timer l2 r2 s2 q2) h = absurd h
-  by_stored (Bistable q) (Counter l2 v2 q2) h = absurd h
   by_stored (Bistable q) (Bistable q2) h = h
+  by_stored _ _ h = absurd h
 
   by_pair : (x y : Partly) → PartlyAlike (StartAlike preset moment shift) x y → PartlyAlike (RunBy moment shift (start_of 0 x) (start_of shift y)) x y
   by_pair (Exactly s) (Exactly t) h = by_stored s t h
-  by_pair (Exactly s) (SomeTimer r) h = h
-  by_pair (Exactly s) (SomeCounter r) h = h
-  by_pair (Exactly s) (SomeBistable r) h = h
-  by_pair (Exactly s) Anything h = h
-  by_pair (SomeTimer q) y h = h
-  by_pair (SomeCounter q) y h = h
-  by_pair (SomeBistable q) y h = h
-  by_pair Anything y h = h
+  by_pair _ _ h = h
 
 -- ---- a relation that says less
 module _ (R T : ℕ → ℕ → Type 0) (less : (s t : ℕ) → R s t → T s t) where
   less_stored : (s t : Stored) → StoredAlike R s t → StoredAlike T s t
   less_stored (Timer l r s q) (Timer l2 r2 s2 q2) h = (h.0, h.1, h.2, λ g. less s s2 (h.3 g), h.4)
-  less_stored (Timer l r s q) (Counter l2 v2 q2) h = absurd h
-  less_stored (Timer l r s q) (Bistable q2) h = absurd h
-  less_stored (Counter l v q) (Timer l2 r2 s2 q2) h = absurd h
   less_stored (Counter l v q) (Counter l2 v2 q2) h = h
-  less_stored (Counter l v q) (Bistable q2) h = absurd h
-  less_stored (Bistable q) (Timer l2 r2 s2 q2) h = absurd h
-  less_stored (Bistable q) (Counter l2 v2 q2) h = absurd h
   less_stored (Bistable q) (Bistable q2) h = h
+  less_stored _ _ h = absurd h
 
   less_alike : (x y : Partly) → PartlyAlike R x y → PartlyAlike T x y
   less_alike (Exactly s) (Exactly t) h = less_stored s t h
-  less_alike (Exactly s) (SomeTimer r) h = h
-  less_alike (Exactly s) (SomeCounter r) h = h
-  less_alike (Exactly s) (SomeBistable r) h = h
-  less_alike (Exactly s) Anything h = h
-  less_alike (SomeTimer q) y h = h
-  less_alike (SomeCounter q) y h = h
-  less_alike (SomeBistable q) y h = h
-  less_alike Anything y h = h
+  less_alike _ _ h = h
 
 -- ---- lists
 as_many : {B C : Type 0} (Q : ℕ → B → C → Type 0) (xs : List B) (ys : List C) → BothAt Q xs ys → length xs ≡ length ys

@@ -40,75 +40,32 @@ three_same = record {
 module _ (R : ℕ → ℕ → Type 0) where
   loosened_alike : (s t : Stored) → StoredAlike R s t → loosened t ≡ loosened s
   loosened_alike (Timer l r a q) (Timer l2 r2 a2 q2) h = ap (λ (x : Bool). SomeTimer (three_known x)) h.2
-  loosened_alike (Timer l r a q) (Counter l2 v2 q2) h = absurd h
-  loosened_alike (Timer l r a q) (Bistable q2) h = absurd h
-  loosened_alike (Counter l v q) (Timer l2 r2 a2 q2) h = absurd h
   loosened_alike (Counter l v q) (Counter l2 v2 q2) h = ap (λ (x : Bool). SomeCounter (three_known x)) h.2
-  loosened_alike (Counter l v q) (Bistable q2) h = absurd h
-  loosened_alike (Bistable q) (Timer l2 r2 a2 q2) h = absurd h
-  loosened_alike (Bistable q) (Counter l2 v2 q2) h = absurd h
   loosened_alike (Bistable q) (Bistable q2) h = ap (λ (x : Bool). SomeBistable (three_known x)) h
+  loosened_alike _ _ h = absurd h
 
   q_stored : (s t : Stored) → StoredAlike R s t → q_of s ≡ q_of t
   q_stored (Timer l r a q) (Timer l2 r2 a2 q2) h = sym h.2
-  q_stored (Timer l r a q) (Counter l2 v2 q2) h = absurd h
-  q_stored (Timer l r a q) (Bistable q2) h = absurd h
-  q_stored (Counter l v q) (Timer l2 r2 a2 q2) h = absurd h
   q_stored (Counter l v q) (Counter l2 v2 q2) h = sym h.2
-  q_stored (Counter l v q) (Bistable q2) h = absurd h
-  q_stored (Bistable q) (Timer l2 r2 a2 q2) h = absurd h
-  q_stored (Bistable q) (Counter l2 v2 q2) h = absurd h
   q_stored (Bistable q) (Bistable q2) h = sym h
+  q_stored _ _ h = absurd h
 
   pub q_alike : (x y : Partly) → PartlyAlike R x y → q_partly x ≡ q_partly y
   q_alike (Exactly s) (Exactly t) h = ap three_known (q_stored s t h)
-  q_alike (Exactly s) (SomeTimer r) h = ap q_partly (sym h)
-  q_alike (Exactly s) (SomeCounter r) h = ap q_partly (sym h)
-  q_alike (Exactly s) (SomeBistable r) h = ap q_partly (sym h)
-  q_alike (Exactly s) Anything h = ap q_partly (sym h)
-  q_alike (SomeTimer q) y h = ap q_partly (sym h)
-  q_alike (SomeCounter q) y h = ap q_partly (sym h)
-  q_alike (SomeBistable q) y h = ap q_partly (sym h)
-  q_alike Anything y h = ap q_partly (sym h)
+  q_alike _ _ h = ap q_partly (sym h)
 
   sort_alike : (x y : Partly) → PartlyAlike R x y → sort_of y ≡ sort_of x
   sort_alike (Exactly s) (Exactly t) h = loosened_alike s t h
-  sort_alike (Exactly s) (SomeTimer r) h = ap sort_of h
-  sort_alike (Exactly s) (SomeCounter r) h = ap sort_of h
-  sort_alike (Exactly s) (SomeBistable r) h = ap sort_of h
-  sort_alike (Exactly s) Anything h = ap sort_of h
-  sort_alike (SomeTimer q) y h = ap sort_of h
-  sort_alike (SomeCounter q) y h = ap sort_of h
-  sort_alike (SomeBistable q) y h = ap sort_of h
-  sort_alike Anything y h = ap sort_of h
+  sort_alike _ _ h = ap sort_of h
 
   -- of which the sort alone is known
   same_sort : (x y : Partly) → PartlyAlike R (merged_sort x y) (merged_sort x y)
   same_sort (Exactly s) (Exactly t) = refl
-  same_sort (Exactly s) (SomeTimer r) = refl
-  same_sort (Exactly s) (SomeCounter r) = refl
-  same_sort (Exactly s) (SomeBistable r) = refl
-  same_sort (Exactly s) Anything = refl
   same_sort (SomeTimer q) (Exactly t) = refl
-  same_sort (SomeTimer q) (SomeTimer r) = refl
-  same_sort (SomeTimer q) (SomeCounter r) = refl
-  same_sort (SomeTimer q) (SomeBistable r) = refl
-  same_sort (SomeTimer q) Anything = refl
   same_sort (SomeCounter q) (Exactly t) = refl
-  same_sort (SomeCounter q) (SomeTimer r) = refl
-  same_sort (SomeCounter q) (SomeCounter r) = refl
-  same_sort (SomeCounter q) (SomeBistable r) = refl
-  same_sort (SomeCounter q) Anything = refl
   same_sort (SomeBistable q) (Exactly t) = refl
-  same_sort (SomeBistable q) (SomeTimer r) = refl
-  same_sort (SomeBistable q) (SomeCounter r) = refl
-  same_sort (SomeBistable q) (SomeBistable r) = refl
-  same_sort (SomeBistable q) Anything = refl
   same_sort Anything (Exactly t) = refl
-  same_sort Anything (SomeTimer r) = refl
-  same_sort Anything (SomeCounter r) = refl
-  same_sort Anything (SomeBistable r) = refl
-  same_sort Anything Anything = refl
+  same_sort _ _ = refl
 
   sorts_alike : (x y x2 y2 : Partly) → x2 ≡ x → y2 ≡ y → PartlyAlike R (merged_sort x y) (merged_sort x2 y2)
   sorts_alike x y x2 y2 e f = subst (λ (z : Partly). PartlyAlike R (merged_sort x y) z) (sym (ap₂ merged_sort e f)) (same_sort x y)
@@ -127,49 +84,29 @@ module _ (R : ℕ → ℕ → Type 0) (single : (s t s2 t2 : ℕ) → R s s2 →
   same_timers l r a q l2 r2 a2 q2 (Timer m u b p) (Timer m2 u2 b2 p2) h g =
       ap₂ same_stored (timer_is l r l2 r2 q q2 a2 h.0 h.1 h.2) (timer_is m u m2 u2 p p2 b2 g.0 g.1 g.2)
       ∙ starts_same l m q p r u a b a2 b2 h.3 h.4 g.3 g.4
-  same_timers l r a q l2 r2 a2 q2 (Timer m u b p) (Counter m2 w2 p2) h g = absurd g
-  same_timers l r a q l2 r2 a2 q2 (Timer m u b p) (Bistable p2) h g = absurd g
-  same_timers l r a q l2 r2 a2 q2 (Counter m w p) (Timer m2 u2 b2 p2) h g = absurd g
   same_timers l r a q l2 r2 a2 q2 (Counter m w p) (Counter m2 w2 p2) h g = refl
-  same_timers l r a q l2 r2 a2 q2 (Counter m w p) (Bistable p2) h g = absurd g
-  same_timers l r a q l2 r2 a2 q2 (Bistable p) (Timer m2 u2 b2 p2) h g = absurd g
-  same_timers l r a q l2 r2 a2 q2 (Bistable p) (Counter m2 w2 p2) h g = absurd g
   same_timers l r a q l2 r2 a2 q2 (Bistable p) (Bistable p2) h g = refl
+  same_timers l r a q l2 r2 a2 q2 _ _ h g = absurd g
 
   same_counters : (l : Bool) (v : ℤ) (q l2 : Bool) (v2 : ℤ) (q2 : Bool) (t t2 : Stored) → StoredAlike R (Counter l v q) (Counter l2 v2 q2) → StoredAlike R t t2
       → same_stored (Counter l2 v2 q2) t2 ≡ same_stored (Counter l v q) t
   same_counters l v q l2 v2 q2 (Timer m u b p) (Timer m2 u2 b2 p2) h g = refl
-  same_counters l v q l2 v2 q2 (Timer m u b p) (Counter m2 w2 p2) h g = absurd g
-  same_counters l v q l2 v2 q2 (Timer m u b p) (Bistable p2) h g = absurd g
-  same_counters l v q l2 v2 q2 (Counter m w p) (Timer m2 u2 b2 p2) h g = absurd g
   same_counters l v q l2 v2 q2 (Counter m w p) (Counter m2 w2 p2) h g =
       ap₂ same_stored (counter_is l l2 v v2 q q2 h.0 h.1 h.2) (counter_is m m2 w w2 p p2 g.0 g.1 g.2)
-  same_counters l v q l2 v2 q2 (Counter m w p) (Bistable p2) h g = absurd g
-  same_counters l v q l2 v2 q2 (Bistable p) (Timer m2 u2 b2 p2) h g = absurd g
-  same_counters l v q l2 v2 q2 (Bistable p) (Counter m2 w2 p2) h g = absurd g
   same_counters l v q l2 v2 q2 (Bistable p) (Bistable p2) h g = refl
+  same_counters l v q l2 v2 q2 _ _ h g = absurd g
 
   same_bistables : (q q2 : Bool) (t t2 : Stored) → q2 ≡ q → StoredAlike R t t2 → same_stored (Bistable q2) t2 ≡ same_stored (Bistable q) t
   same_bistables q q2 (Timer m u b p) (Timer m2 u2 b2 p2) h g = refl
-  same_bistables q q2 (Timer m u b p) (Counter m2 w2 p2) h g = absurd g
-  same_bistables q q2 (Timer m u b p) (Bistable p2) h g = absurd g
-  same_bistables q q2 (Counter m w p) (Timer m2 u2 b2 p2) h g = absurd g
   same_bistables q q2 (Counter m w p) (Counter m2 w2 p2) h g = refl
-  same_bistables q q2 (Counter m w p) (Bistable p2) h g = absurd g
-  same_bistables q q2 (Bistable p) (Timer m2 u2 b2 p2) h g = absurd g
-  same_bistables q q2 (Bistable p) (Counter m2 w2 p2) h g = absurd g
   same_bistables q q2 (Bistable p) (Bistable p2) h g = ap₂ same_bool h g
+  same_bistables q q2 _ _ h g = absurd g
 
   same_alike : (s t s2 t2 : Stored) → StoredAlike R s s2 → StoredAlike R t t2 → same_stored s2 t2 ≡ same_stored s t
   same_alike (Timer l r a q) t (Timer l2 r2 a2 q2) t2 h g = same_timers l r a q l2 r2 a2 q2 t t2 h g
-  same_alike (Timer l r a q) t (Counter l2 v2 q2) t2 h g = absurd h
-  same_alike (Timer l r a q) t (Bistable q2) t2 h g = absurd h
-  same_alike (Counter l v q) t (Timer l2 r2 a2 q2) t2 h g = absurd h
   same_alike (Counter l v q) t (Counter l2 v2 q2) t2 h g = same_counters l v q l2 v2 q2 t t2 h g
-  same_alike (Counter l v q) t (Bistable q2) t2 h g = absurd h
-  same_alike (Bistable q) t (Timer l2 r2 a2 q2) t2 h g = absurd h
-  same_alike (Bistable q) t (Counter l2 v2 q2) t2 h g = absurd h
   same_alike (Bistable q) t (Bistable q2) t2 h g = same_bistables q q2 t t2 h g
+  same_alike _ t _ t2 h g = absurd h
 
   stored_merged : (s t s2 t2 : Stored) → StoredAlike R s s2 → StoredAlike R t t2 → PartlyAlike R (merged (Exactly s) (Exactly t)) (merged (Exactly s2) (Exactly t2))
   stored_merged s t s2 t2 h g = by (same_stored s t) (same_stored s2 t2) (same_alike s t s2 t2 h g)
@@ -184,10 +121,7 @@ module _ (R : ℕ → ℕ → Type 0) (single : (s t s2 t2 : ℕ) → R s s2 →
   -- what is alike to what is stored is stored
   exactly : (s : Stored) (x : Partly) → PartlyAlike R (Exactly s) x → (P : Partly → Type 0) → ((t : Stored) → StoredAlike R s t → P (Exactly t)) → P x
   exactly s (Exactly t) h P f = f t h
-  exactly s (SomeTimer r) h P f = cc
-  exactly s (SomeCounter r) h P f = cc
-  exactly s (SomeBistable r) h P f = cc
-  exactly s Anything h P f = cc
+  exactly s _ h P f = cc
 
   merged_alike : (x y x2 y2 : Partly) → PartlyAlike R x x2 → PartlyAlike R y y2 → PartlyAlike R (merged x y) (merged x2 y2)
   merged_alike (Exactly s) (Exactly t) x2 y2 h g =
@@ -279,92 +213,52 @@ module _ (R : ℕ → ℕ → Type 0) (single : (s t s2 t2 : ℕ) → R s s2 →
   timer Ton x y l r s t q h k = ton l r s t q q x y h
   timer Tof x y l r s t q h k = tof l r s t q q x y h
   timer Tp x y l r s t q h k = tp l r s t q q x y h
-  timer Ctu x y l r s t q h k = (refl, refl, refl, h, k)
-  timer Ctd x y l r s t q h k = (refl, refl, refl, h, k)
-  timer Sr x y l r s t q h k = (refl, refl, refl, h, k)
-  timer Rs x y l r s t q h k = (refl, refl, refl, h, k)
+  timer _ x y l r s t q h k = (refl, refl, refl, h, k)
 
   counter : (kind : BlockKind) (x y l : Bool) (v : ℤ) (q : Bool) → StoredAlike R (step kind preset (Counter l v q) x y now) (step kind preset (Counter l v q) x y then)
   unfolding step
   counter Ton x y l v q = (refl, refl, refl)
-  counter Tof x y l v q = (refl, refl, refl)
-  counter Tp x y l v q = (refl, refl, refl)
-  counter Ctu x y l v q = (refl, refl, refl)
-  counter Ctd x y l v q = (refl, refl, refl)
-  counter Sr x y l v q = (refl, refl, refl)
-  counter Rs x y l v q = (refl, refl, refl)
+  counter _ x y l v q = (refl, refl, refl)
 
   bistable : (kind : BlockKind) (x y q : Bool) → StoredAlike R (step kind preset (Bistable q) x y now) (step kind preset (Bistable q) x y then)
   unfolding step
   bistable Ton x y q = refl
-  bistable Tof x y q = refl
-  bistable Tp x y q = refl
-  bistable Ctu x y q = refl
-  bistable Ctd x y q = refl
-  bistable Sr x y q = refl
-  bistable Rs x y q = refl
+  bistable _ x y q = refl
 
   stored : (kind : BlockKind) (x y : Bool) (s t : Stored) → StoredAlike R s t → StoredAlike R (step kind preset s x y now) (step kind preset t x y then)
   stored kind x y (Timer l r a q) (Timer l2 r2 a2 q2) h =
       subst (λ (z : Stored). StoredAlike R (step kind preset (Timer l r a q) x y now) (step kind preset z x y then)) (sym (timer_is l r l2 r2 q q2 a2 h.0 h.1 h.2))
       (timer kind x y l r a a2 q h.3 h.4)
-  stored kind x y (Timer l r a q) (Counter l2 v2 q2) h = absurd h
-  stored kind x y (Timer l r a q) (Bistable q2) h = absurd h
-  stored kind x y (Counter l v q) (Timer l2 r2 a2 q2) h = absurd h
   stored kind x y (Counter l v q) (Counter l2 v2 q2) h =
       subst (λ (z : Stored). StoredAlike R (step kind preset (Counter l v q) x y now) (step kind preset z x y then)) (sym (counter_is l l2 v v2 q q2 h.0 h.1 h.2))
       (counter kind x y l v q)
-  stored kind x y (Counter l v q) (Bistable q2) h = absurd h
-  stored kind x y (Bistable q) (Timer l2 r2 a2 q2) h = absurd h
-  stored kind x y (Bistable q) (Counter l2 v2 q2) h = absurd h
   stored kind x y (Bistable q) (Bistable q2) h =
       subst (λ (z : Bool). StoredAlike R (step kind preset (Bistable q) x y now) (step kind preset (Bistable z) x y then)) (sym h)
       (bistable kind x y q)
+  stored kind x y _ _ h = absurd h
 
   -- ---- where the sort alone is known, the moment makes no difference
   some_timer : (kind : BlockKind) (x y : Bool) (q : Tri) → PartlyAlike R (step_known kind preset (SomeTimer q) x y now) (step_known kind preset (SomeTimer q) x y then)
   unfolding step_known
-  some_timer Ton true y q = refl
   some_timer Ton false y q = (refl, refl, refl, stopped, λ g. refl)
   some_timer Tof true y q = (refl, refl, refl, stopped, λ g. refl)
-  some_timer Tof false y q = refl
-  some_timer Tp x y q = refl
-  some_timer Ctu x y q = refl
-  some_timer Ctd x y q = refl
-  some_timer Sr x y q = refl
-  some_timer Rs x y q = refl
+  some_timer _ _ y q = refl
 
   some_counter : (kind : BlockKind) (x y : Bool) (q : Tri) → PartlyAlike R (step_known kind preset (SomeCounter q) x y now) (step_known kind preset (SomeCounter q) x y then)
   unfolding step_known
-  some_counter Ton x y q = refl
-  some_counter Tof x y q = refl
-  some_counter Tp x y q = refl
   some_counter Ctu x true q = (refl, refl, refl)
-  some_counter Ctu x false q = refl
   some_counter Ctd x true q = (refl, refl, refl)
-  some_counter Ctd x false q = refl
-  some_counter Sr x y q = refl
-  some_counter Rs x y q = refl
+  some_counter _ x _ q = refl
 
   some_bistable : (kind : BlockKind) (x y : Bool) (q : Tri) → PartlyAlike R (step_known kind preset (SomeBistable q) x y now) (step_known kind preset (SomeBistable q) x y then)
   unfolding step_known
   some_bistable Ton x y q = refl
-  some_bistable Tof x y q = refl
-  some_bistable Tp x y q = refl
-  some_bistable Ctu x y q = refl
-  some_bistable Ctd x y q = refl
-  some_bistable Sr x y q = refl
-  some_bistable Rs x y q = refl
+  some_bistable _ x y q = refl
 
   anything : (kind : BlockKind) (x y : Bool) → PartlyAlike R (step_known kind preset Anything x y now) (step_known kind preset Anything x y then)
   unfolding step_known
   anything Ton x y = refl
-  anything Tof x y = refl
-  anything Tp x y = refl
-  anything Ctu x y = refl
-  anything Ctd x y = refl
-  anything Sr x y = refl
-  anything Rs x y = refl
+  anything _ x y = refl
 
   exactly_step : (kind : BlockKind) (x y : Bool) (s t : Stored) → StoredAlike R s t
       → PartlyAlike R (step_known kind preset (Exactly s) x y now) (step_known kind preset (Exactly t) x y then)

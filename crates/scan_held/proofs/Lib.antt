@@ -10,3 +10,5 @@ mod ScanByScan
 mod AlikeSteps
 mod AlikeStarts
 mod ComingAgain
+mod AllKnown
+mod Periods

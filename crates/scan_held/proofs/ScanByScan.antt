@@ -1,11 +1,9 @@
 -- Scan by scan over three values, from a state on.
-use Rattle.std.proofs.Common.{◌≡◌, ◌∙◌, ap, sym, refl, ℕ, ◌+◌, List, add-one, length, get_or}
-use Rattle.std.proofs.lemmas.List.{length-map}
+use Rattle.std.proofs.Common.{◌≡◌, ◌∙◌, ap, sym, refl, ℕ, ◌+◌, List, add-one, get_or}
 use Rattle.diagram_program.specs.Program.{Drawing}
 use Rattle.scan_cycle.specs.Cells.{Diagram}
 use Rattle.scan_cycle.specs.Rung.{Held}
-use Rattle.scan_cycle.specs.Standing.{Standing, Fits, IsStanding}
-use Rattle.scan_partial.specs.Sizes.{AreAsLong, HasSizes, IsAsLong}
+use Rattle.scan_partial.specs.Sizes.{AreAsLong, HasSizes}
 use Rattle.scan_symbolic.specs.KnownScan.{Known, after_known, all_known}
 use Rattle.scan_signals.specs.Three.{three}
 use Rattle.scan_signals.specs.declared.tri.Tri.{Tri}
@@ -29,22 +27,3 @@ value_is d moment xs n coil h k x e f = f ∙ ap (λ (l : Known Tri Partly). get
 
 pub both_long : (p : Drawing) (k l : Known Tri Partly) → HasSizes p k → HasSizes p l → AreAsLong k l
 both_long p k l h g = record { values = h.values ∙ sym g.values; memories = h.memories ∙ sym g.memories; blocks = h.blocks ∙ sym g.blocks }
-
--- ---- a state of the program
-module _ (p : Drawing) (s : Standing) (fits : Fits p s) (standing : IsStanding s) where
-  instances : length s.held.kept.blocks ≡ length p.decls.instances
-  instances = standing.sound.as_many ∙ ap length fits.kinds ∙ length-map p.decls.instances (λ i. i.kind)
-
-  pub as_long_as : (k : Known Tri Partly) → HasSizes p k → IsAsLong k s.held
-  as_long_as k has = record {
-    values = has.values ∙ sym fits.values;
-    memories = has.memories ∙ sym fits.memories;
-    blocks = has.blocks ∙ sym instances;
-  }
-
-  pub all_there : (k : Known Tri Partly) → k ≡ all_known three partly s.held → HasSizes p k
-  all_there k e = record {
-    values = ap (λ (x : Known Tri Partly). length x.values) e ∙ length-map s.held.values three.known ∙ fits.values;
-    memories = ap (λ (x : Known Tri Partly). length x.memories) e ∙ length-map s.held.kept.memories three.known ∙ fits.memories;
-    blocks = ap (λ (x : Known Tri Partly). length x.blocks) e ∙ length-map s.held.kept.blocks partly.stored ∙ instances;
-  }

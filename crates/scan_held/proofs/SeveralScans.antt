@@ -2,6 +2,7 @@
 use Rattle.std.proofs.Common.{◌≡◌, ◌∙◌, ℕ, Bool, true, false, cond, List, [], ◌∷◌, map, refl, sym, ap, subst, zero, suc, Some, None, slice_index_or}
 use Rattle.std.specs.Prelude.{find}
 use Rattle.std.specs.List.{range_with_len}
+use Rattle.std.proofs.lemmas.Option.{same_Some}
 use Rattle.scan_signals.specs.declared.block.Stored.{Stored}
 use Rattle.scan_cycle.specs.Cells.{Diagram}
 use Rattle.scan_symbolic.specs.KnownLaws.{BothAt, BothKnown, KnownIsScan, ScanKeeps}
@@ -50,9 +51,6 @@ off_on h = cc
 none_some : {A : Type 0} {x : A} → Some x ≡ None → ⊥
 none_some h = cc
 
-some_same : (x y : ℕ) → Some x ≡ Some y → x ≡ y
-some_same x y h = cc
-
 module _ (p q : ℕ → Bool) (more : (n : ℕ) → p n ≡ true → q n ≡ true) where
   step_none : (n : ℕ) (ns : List ℕ) (b c : Bool) → (b ≡ true → c ≡ true) → (find q ns ≡ None → find p ns ≡ None)
       → cond c (Some n) (find q ns) ≡ None → cond b (Some n) (find p ns) ≡ None
@@ -67,7 +65,7 @@ module _ (p q : ℕ → Bool) (more : (n : ℕ) → p n ≡ true → q n ≡ tru
   step_first : (n : ℕ) (ns : List ℕ) (x : ℕ) (b c : Bool) → p n ≡ b → (b ≡ true → c ≡ true) → p x ≡ true → (find q ns ≡ Some x → find p ns ≡ Some x)
       → cond c (Some n) (find q ns) ≡ Some x → cond b (Some n) (find p ns) ≡ Some x
   step_first n ns x true true e m t rest h = h
-  step_first n ns x false true e m t rest h = absurd (off_on (sym e ∙ ap p (some_same n x h) ∙ t))
+  step_first n ns x false true e m t rest h = absurd (off_on (sym e ∙ ap p (same_Some n x h) ∙ t))
   step_first n ns x true false e m t rest h = absurd (off_on (m refl))
   step_first n ns x false false e m t rest h = rest h
 

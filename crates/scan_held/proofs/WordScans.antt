@@ -1,11 +1,7 @@
 -- Scan by scan over words, from a state on.
-use Rattle.std.proofs.Common.{◌≡◌, ◌∙◌, ap, sym, refl, ℕ, ◌+◌, List, add-one, length, get_or}
-use Rattle.std.proofs.lemmas.List.{length-map}
-use Rattle.diagram_program.specs.Program.{Drawing}
+use Rattle.std.proofs.Common.{◌≡◌, ◌∙◌, ap, sym, refl, ℕ, ◌+◌, List, add-one, get_or}
 use Rattle.scan_cycle.specs.Cells.{Diagram}
 use Rattle.scan_cycle.specs.Rung.{Held}
-use Rattle.scan_cycle.specs.Standing.{Standing, Fits, IsStanding}
-use Rattle.scan_partial.specs.Sizes.{HasSizes, IsAsLong}
 use Rattle.scan_symbolic.specs.KnownScan.{Known, after_known, all_known}
 use Rattle.scan_signals.specs.Words.{word, words}
 use Rattle.scan_signals.specs.declared.word.Word64.{Word64}
@@ -25,22 +21,3 @@ one_more d moment xs n h k next e f = f ∙ ap (after_known words lanes d (momen
 pub value_is : (d : Diagram) (moment : ℕ → ℕ) (xs : List Word64) (n coil lane : ℕ) (h : Held) (k : Known Word64 Lanes) (x : Word64)
     → k ≡ lanes_after d moment xs n h → x ≡ get_or k.values coil (word 0) → bit x lane ≡ is_on_in_lane d moment xs h coil lane n
 value_is d moment xs n coil lane h k x e f = ap (λ (y : Word64). bit y lane) (f ∙ ap (λ (l : Known Word64 Lanes). get_or l.values coil (word 0)) e)
-
--- ---- a state of the program
-module _ (p : Drawing) (s : Standing) (fits : Fits p s) (standing : IsStanding s) where
-  instances : length s.held.kept.blocks ≡ length p.decls.instances
-  instances = standing.sound.as_many ∙ ap length fits.kinds ∙ length-map p.decls.instances (λ i. i.kind)
-
-  pub as_long_as : (k : Known Word64 Lanes) → HasSizes p k → IsAsLong k s.held
-  as_long_as k has = record {
-    values = has.values ∙ sym fits.values;
-    memories = has.memories ∙ sym fits.memories;
-    blocks = has.blocks ∙ sym instances;
-  }
-
-  pub all_there : (k : Known Word64 Lanes) → k ≡ all_known words lanes s.held → HasSizes p k
-  all_there k e = record {
-    values = ap (λ (x : Known Word64 Lanes). length x.values) e ∙ length-map s.held.values words.known ∙ fits.values;
-    memories = ap (λ (x : Known Word64 Lanes). length x.memories) e ∙ length-map s.held.kept.memories words.known ∙ fits.memories;
-    blocks = ap (λ (x : Known Word64 Lanes). length x.blocks) e ∙ length-map s.held.kept.blocks lanes.stored ∙ instances;
-  }

@@ -172,9 +172,7 @@ side_bit x m p h f = elim (follows_cases (is_whole x) (x.0 == m.0) f) [
 -- ---- steps and choices
 both_true : (a b c : Bool) → (a && (b && c)) ≡ true → (a ≡ true) × (b ≡ true) × (c ≡ true)
 both_true true true true e = (refl, refl, refl)
-both_true true true false e = cc
-both_true true false c e = cc
-both_true false b c e = cc
+both_true _ _ _ e = cc
 
 same_lane : (b : Lanes) (p : ℕ) → are_alike b ≡ true → stored_in b 0 ≡ stored_in b p
 same_lane (Alike s) p e = refl

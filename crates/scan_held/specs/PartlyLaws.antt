@@ -26,23 +26,15 @@ known_allows false = refl
 
 agree_left : (q r : Tri) (b : Bool) → three_allows q 0 b → three_allows (three_choice Unsure q r) 0 b
 agree_left On On b h = h
-agree_left On Off b h = tt
-agree_left On Unsure b h = tt
-agree_left Off On b h = tt
 agree_left Off Off b h = h
-agree_left Off Unsure b h = tt
 agree_left Unsure r b h = h
+agree_left _ _ b h = tt
 
 agree_right : (q r : Tri) (b : Bool) → three_allows r 0 b → three_allows (three_choice Unsure q r) 0 b
 agree_right On On b h = h
-agree_right On Off b h = tt
-agree_right On Unsure b h = tt
-agree_right Off On b h = tt
 agree_right Off Off b h = h
-agree_right Off Unsure b h = tt
-agree_right Unsure On b h = tt
-agree_right Unsure Off b h = tt
 agree_right Unsure Unsure b h = h
+agree_right _ _ b h = tt
 
 -- ---- one of two
 own_sort : (s : Stored) → may_store (loosened s) s
@@ -52,76 +44,36 @@ own_sort (Bistable q) = known_allows q
 
 sort_allows : (x : Partly) (s : Stored) → may_store x s → may_store (sort_of x) s
 sort_allows (Exactly s) t h = subst (λ (u : Stored). may_store (loosened s) u) (sym h) (own_sort s)
-sort_allows (SomeTimer q) t h = h
-sort_allows (SomeCounter q) t h = h
-sort_allows (SomeBistable q) t h = h
 sort_allows Anything t h = tt
+sort_allows _ t h = h
 
 sort_left : (x y : Partly) (s : Stored) → may_store x s → may_store (merged_sort x y) s
 sort_left (Exactly x) (Exactly y) s h = tt
-sort_left (Exactly x) (SomeTimer r) s h = tt
-sort_left (Exactly x) (SomeCounter r) s h = tt
-sort_left (Exactly x) (SomeBistable r) s h = tt
-sort_left (Exactly x) Anything s h = tt
-sort_left (SomeTimer q) (Exactly y) s h = tt
 sort_left (SomeTimer q) (SomeTimer r) (Timer last running start b) h = agree_left q r b h
 sort_left (SomeTimer q) (SomeTimer r) (Counter last cv b) h = absurd h
 sort_left (SomeTimer q) (SomeTimer r) (Bistable b) h = absurd h
-sort_left (SomeTimer q) (SomeCounter r) s h = tt
-sort_left (SomeTimer q) (SomeBistable r) s h = tt
-sort_left (SomeTimer q) Anything s h = tt
-sort_left (SomeCounter q) (Exactly y) s h = tt
-sort_left (SomeCounter q) (SomeTimer r) s h = tt
 sort_left (SomeCounter q) (SomeCounter r) (Timer last running start b) h = absurd h
 sort_left (SomeCounter q) (SomeCounter r) (Counter last cv b) h = agree_left q r b h
 sort_left (SomeCounter q) (SomeCounter r) (Bistable b) h = absurd h
-sort_left (SomeCounter q) (SomeBistable r) s h = tt
-sort_left (SomeCounter q) Anything s h = tt
-sort_left (SomeBistable q) (Exactly y) s h = tt
-sort_left (SomeBistable q) (SomeTimer r) s h = tt
-sort_left (SomeBistable q) (SomeCounter r) s h = tt
 sort_left (SomeBistable q) (SomeBistable r) (Timer last running start b) h = absurd h
 sort_left (SomeBistable q) (SomeBistable r) (Counter last cv b) h = absurd h
 sort_left (SomeBistable q) (SomeBistable r) (Bistable b) h = agree_left q r b h
-sort_left (SomeBistable q) Anything s h = tt
 sort_left Anything (Exactly y) s h = tt
-sort_left Anything (SomeTimer r) s h = tt
-sort_left Anything (SomeCounter r) s h = tt
-sort_left Anything (SomeBistable r) s h = tt
-sort_left Anything Anything s h = tt
+sort_left _ _ s h = tt
 
 sort_right : (x y : Partly) (s : Stored) → may_store y s → may_store (merged_sort x y) s
 sort_right (Exactly x) (Exactly y) s h = tt
-sort_right (Exactly x) (SomeTimer r) s h = tt
-sort_right (Exactly x) (SomeCounter r) s h = tt
-sort_right (Exactly x) (SomeBistable r) s h = tt
-sort_right (Exactly x) Anything s h = tt
-sort_right (SomeTimer q) (Exactly y) s h = tt
 sort_right (SomeTimer q) (SomeTimer r) (Timer last running start b) h = agree_right q r b h
 sort_right (SomeTimer q) (SomeTimer r) (Counter last cv b) h = absurd h
 sort_right (SomeTimer q) (SomeTimer r) (Bistable b) h = absurd h
-sort_right (SomeTimer q) (SomeCounter r) s h = tt
-sort_right (SomeTimer q) (SomeBistable r) s h = tt
-sort_right (SomeTimer q) Anything s h = tt
-sort_right (SomeCounter q) (Exactly y) s h = tt
-sort_right (SomeCounter q) (SomeTimer r) s h = tt
 sort_right (SomeCounter q) (SomeCounter r) (Timer last running start b) h = absurd h
 sort_right (SomeCounter q) (SomeCounter r) (Counter last cv b) h = agree_right q r b h
 sort_right (SomeCounter q) (SomeCounter r) (Bistable b) h = absurd h
-sort_right (SomeCounter q) (SomeBistable r) s h = tt
-sort_right (SomeCounter q) Anything s h = tt
-sort_right (SomeBistable q) (Exactly y) s h = tt
-sort_right (SomeBistable q) (SomeTimer r) s h = tt
-sort_right (SomeBistable q) (SomeCounter r) s h = tt
 sort_right (SomeBistable q) (SomeBistable r) (Timer last running start b) h = absurd h
 sort_right (SomeBistable q) (SomeBistable r) (Counter last cv b) h = absurd h
 sort_right (SomeBistable q) (SomeBistable r) (Bistable b) h = agree_right q r b h
-sort_right (SomeBistable q) Anything s h = tt
 sort_right Anything (Exactly y) s h = tt
-sort_right Anything (SomeTimer r) s h = tt
-sort_right Anything (SomeCounter r) s h = tt
-sort_right Anything (SomeBistable r) s h = tt
-sort_right Anything Anything s h = tt
+sort_right _ _ s h = tt
 
 both_on : (a b : Bool) → (a && b) ≡ true → (a ≡ true) × (b ≡ true)
 both_on true true h = (refl, refl)
@@ -152,17 +104,12 @@ same_is (Timer a c m e) (Timer b d n f) h =
     let two = both_on (same_bool c d) _ one.1 in
     let three = both_on (nat_eq m n) _ two.1 in
     same_timer a b c d m n e f (same_bools a b one.0) (same_bools c d two.0) (same_numbers m n three.0) (same_bools e f three.1)
-same_is (Timer a c m e) (Counter b w f) h = absurd (off_on h)
-same_is (Timer a c m e) (Bistable f) h = absurd (off_on h)
-same_is (Counter a v e) (Timer b d n f) h = absurd (off_on h)
 same_is (Counter a v e) (Counter b w f) h =
     let one = both_on (same_bool a b) _ h in
     let two = both_on (int_eq v w) _ one.1 in
     same_counter a b v w e f (same_bools a b one.0) ((Decides-int_eq v w).0 two.0) (same_bools e f two.1)
-same_is (Counter a v e) (Bistable f) h = absurd (off_on h)
-same_is (Bistable e) (Timer b d n f) h = absurd (off_on h)
-same_is (Bistable e) (Counter b w f) h = absurd (off_on h)
 same_is (Bistable e) (Bistable f) h = ap (λ (q : Bool). Bistable q) (same_bools e f h)
+same_is _ _ h = absurd (off_on h)
 
 exactly_left : (s t u : Stored) → u ≡ s → may_store (merged (Exactly s) (Exactly t)) u
 exactly_left s t u h = elim (same_stored s t) as (λ b. may_store (cond b (Exactly s) (merged_sort (loosened s) (loosened t))) u) [
@@ -215,15 +162,10 @@ input_sound Unsure f g h false e = merged_right (f true) (f false) (g false) (h 
 pub q_sound : (b : Partly) (s : Stored) → may_store b s → three_allows (q_partly b) 0 (q_of s)
 q_sound (Exactly t) s h = subst (λ (u : Stored). three_allows (three_known (q_of t)) 0 (q_of u)) (sym h) (known_allows (q_of t))
 q_sound (SomeTimer q) (Timer last running start b) h = h
-q_sound (SomeTimer q) (Counter last cv b) h = absurd h
-q_sound (SomeTimer q) (Bistable b) h = absurd h
-q_sound (SomeCounter q) (Timer last running start b) h = absurd h
 q_sound (SomeCounter q) (Counter last cv b) h = h
-q_sound (SomeCounter q) (Bistable b) h = absurd h
-q_sound (SomeBistable q) (Timer last running start b) h = absurd h
-q_sound (SomeBistable q) (Counter last cv b) h = absurd h
 q_sound (SomeBistable q) (Bistable b) h = h
 q_sound Anything s h = tt
+q_sound _ _ h = absurd h
 
 -- ---- steps
 some_timer : (c : Bool) (s t : Stored) → may_store (SomeTimer Unsure) s → may_store (SomeTimer Unsure) t → may_store (SomeTimer Unsure) (cond c s t)
@@ -236,89 +178,48 @@ step_sound Ton preset x y now (Exactly t) s h = ap (λ (u : Stored). step Ton pr
 step_sound Ton preset x y now Anything s h = tt
 step_sound Ton preset true y now (SomeTimer q) (Timer last running start b) h = tt
 step_sound Ton preset false y now (SomeTimer q) (Timer last running start b) h = refl
-step_sound Ton preset x y now (SomeTimer q) (Counter last cv b) h = absurd h
-step_sound Ton preset x y now (SomeTimer q) (Bistable b) h = absurd h
-step_sound Ton preset x y now (SomeCounter q) (Timer last running start b) h = absurd h
 step_sound Ton preset x y now (SomeCounter q) (Counter last cv b) h = h
-step_sound Ton preset x y now (SomeCounter q) (Bistable b) h = absurd h
-step_sound Ton preset x y now (SomeBistable q) (Timer last running start b) h = absurd h
-step_sound Ton preset x y now (SomeBistable q) (Counter last cv b) h = absurd h
 step_sound Ton preset x y now (SomeBistable q) (Bistable b) h = h
 step_sound Tof preset x y now (Exactly t) s h = ap (λ (u : Stored). step Tof preset u x y now) h
 step_sound Tof preset x y now Anything s h = tt
 step_sound Tof preset true y now (SomeTimer q) (Timer last running start b) h = refl
 step_sound Tof preset false y now (SomeTimer q) (Timer last running start b) h = tt
-step_sound Tof preset x y now (SomeTimer q) (Counter last cv b) h = absurd h
-step_sound Tof preset x y now (SomeTimer q) (Bistable b) h = absurd h
-step_sound Tof preset x y now (SomeCounter q) (Timer last running start b) h = absurd h
 step_sound Tof preset x y now (SomeCounter q) (Counter last cv b) h = h
-step_sound Tof preset x y now (SomeCounter q) (Bistable b) h = absurd h
-step_sound Tof preset x y now (SomeBistable q) (Timer last running start b) h = absurd h
-step_sound Tof preset x y now (SomeBistable q) (Counter last cv b) h = absurd h
 step_sound Tof preset x y now (SomeBistable q) (Bistable b) h = h
 step_sound Tp preset x y now (Exactly t) s h = ap (λ (u : Stored). step Tp preset u x y now) h
 step_sound Tp preset x y now Anything s h = tt
 step_sound Tp preset x y now (SomeTimer q) (Timer last running start b) h =
     some_timer (running && nat_lt (now - start) preset) (Timer x true start true) _ tt
     (some_timer (x && (not last && nat_lt 0 preset)) (Timer x true now true) (Timer x false 0 false) tt tt)
-step_sound Tp preset x y now (SomeTimer q) (Counter last cv b) h = absurd h
-step_sound Tp preset x y now (SomeTimer q) (Bistable b) h = absurd h
-step_sound Tp preset x y now (SomeCounter q) (Timer last running start b) h = absurd h
 step_sound Tp preset x y now (SomeCounter q) (Counter last cv b) h = h
-step_sound Tp preset x y now (SomeCounter q) (Bistable b) h = absurd h
-step_sound Tp preset x y now (SomeBistable q) (Timer last running start b) h = absurd h
-step_sound Tp preset x y now (SomeBistable q) (Counter last cv b) h = absurd h
 step_sound Tp preset x y now (SomeBistable q) (Bistable b) h = h
 step_sound Ctu preset x y now (Exactly t) s h = ap (λ (u : Stored). step Ctu preset u x y now) h
 step_sound Ctu preset x y now Anything s h = tt
 step_sound Ctu preset x y now (SomeTimer q) (Timer last running start b) h = h
-step_sound Ctu preset x y now (SomeTimer q) (Counter last cv b) h = absurd h
-step_sound Ctu preset x y now (SomeTimer q) (Bistable b) h = absurd h
-step_sound Ctu preset x y now (SomeCounter q) (Timer last running start b) h = absurd h
 step_sound Ctu preset x true now (SomeCounter q) (Counter last cv b) h = refl
 step_sound Ctu preset x false now (SomeCounter q) (Counter last cv b) h = tt
-step_sound Ctu preset x y now (SomeCounter q) (Bistable b) h = absurd h
-step_sound Ctu preset x y now (SomeBistable q) (Timer last running start b) h = absurd h
-step_sound Ctu preset x y now (SomeBistable q) (Counter last cv b) h = absurd h
 step_sound Ctu preset x y now (SomeBistable q) (Bistable b) h = h
 step_sound Ctd preset x y now (Exactly t) s h = ap (λ (u : Stored). step Ctd preset u x y now) h
 step_sound Ctd preset x y now Anything s h = tt
 step_sound Ctd preset x y now (SomeTimer q) (Timer last running start b) h = h
-step_sound Ctd preset x y now (SomeTimer q) (Counter last cv b) h = absurd h
-step_sound Ctd preset x y now (SomeTimer q) (Bistable b) h = absurd h
-step_sound Ctd preset x y now (SomeCounter q) (Timer last running start b) h = absurd h
 step_sound Ctd preset x true now (SomeCounter q) (Counter last cv b) h = refl
 step_sound Ctd preset x false now (SomeCounter q) (Counter last cv b) h = tt
-step_sound Ctd preset x y now (SomeCounter q) (Bistable b) h = absurd h
-step_sound Ctd preset x y now (SomeBistable q) (Timer last running start b) h = absurd h
-step_sound Ctd preset x y now (SomeBistable q) (Counter last cv b) h = absurd h
 step_sound Ctd preset x y now (SomeBistable q) (Bistable b) h = h
 step_sound Sr preset x y now (Exactly t) s h = ap (λ (u : Stored). step Sr preset u x y now) h
 step_sound Sr preset x y now Anything s h = tt
 step_sound Sr preset x y now (SomeTimer q) (Timer last running start b) h = h
-step_sound Sr preset x y now (SomeTimer q) (Counter last cv b) h = absurd h
-step_sound Sr preset x y now (SomeTimer q) (Bistable b) h = absurd h
-step_sound Sr preset x y now (SomeCounter q) (Timer last running start b) h = absurd h
 step_sound Sr preset x y now (SomeCounter q) (Counter last cv b) h = h
-step_sound Sr preset x y now (SomeCounter q) (Bistable b) h = absurd h
-step_sound Sr preset x y now (SomeBistable q) (Timer last running start b) h = absurd h
-step_sound Sr preset x y now (SomeBistable q) (Counter last cv b) h = absurd h
 step_sound Sr preset x y now (SomeBistable q) (Bistable b) h =
     three_allowed.join_allows (three_known x) (three_meet (three_known (not y)) q) 0 x (not y && b) tt tt refl (known_allows x)
     (three_allowed.meet_allows (three_known (not y)) q 0 (not y) b tt tt refl (known_allows (not y)) h)
 step_sound Rs preset x y now (Exactly t) s h = ap (λ (u : Stored). step Rs preset u x y now) h
 step_sound Rs preset x y now Anything s h = tt
 step_sound Rs preset x y now (SomeTimer q) (Timer last running start b) h = h
-step_sound Rs preset x y now (SomeTimer q) (Counter last cv b) h = absurd h
-step_sound Rs preset x y now (SomeTimer q) (Bistable b) h = absurd h
-step_sound Rs preset x y now (SomeCounter q) (Timer last running start b) h = absurd h
 step_sound Rs preset x y now (SomeCounter q) (Counter last cv b) h = h
-step_sound Rs preset x y now (SomeCounter q) (Bistable b) h = absurd h
-step_sound Rs preset x y now (SomeBistable q) (Timer last running start b) h = absurd h
-step_sound Rs preset x y now (SomeBistable q) (Counter last cv b) h = absurd h
 step_sound Rs preset x y now (SomeBistable q) (Bistable b) h =
     three_allowed.meet_allows (three_known (not y)) (three_join (three_known x) q) 0 (not y) (x || b) tt tt refl (known_allows (not y))
     (three_allowed.join_allows (three_known x) q 0 x b tt tt refl (known_allows x) h)
+step_sound _ preset x y now _ _ h = absurd h
 
 -- What is known of instances keeps what steps and choices leave.
 pub partly_keeps : (now : ℕ) (d : Diagram) → StepsKeep d partly plainly (AllowsAt AnyTri OnePlace three_allows 0) (λ inst. may_store) now now

@@ -2,7 +2,7 @@
 use Rattle.std.proofs.Common.{◌≡◌, ◌∙◌, inl, inr, ℕ, ◌+◌, ◌-◌, ◌≤◌, Bool, true, false, not, cond, refl, sym, ap, ap₂, subst, ◌&&◌, nat_lt, nat_le, arith, ℤ}
 use Rattle.std.proofs.lemmas.Bool.Decides.{nat_tests}
 use Rattle.diagram_declarations.specs.declared.kind.BlockKind.{BlockKind}
-use Rattle.diagram_declarations.specs.declared.kind.BlockKind.TheVariants.{Ton, Tof, Tp, Ctu, Ctd, Sr, Rs}
+use Rattle.diagram_declarations.specs.declared.kind.BlockKind.TheVariants.{Ton, Tof, Tp}
 use Rattle.scan_signals.specs.declared.block.Stored.{Stored}
 use Rattle.scan_signals.specs.declared.block.Stored.TheVariants.{Timer, Counter, Bistable}
 use Rattle.scan_signals.specs.Blocks.{step, q_of}
@@ -85,50 +85,32 @@ module _ (preset moment shift now : ℕ) (le : moment ≤ now) where
   timer_later Ton x y l r s t p q e h = ton_later l r s t p q x y h
   timer_later Tof x y l r s t p q e h = tof_later l r s t p q x y h
   timer_later Tp x y l r s t p q e h = tp_later l r s t p q x y h
-  timer_later Ctu x y l r s t p q e h = (refl, refl, e, h)
-  timer_later Ctd x y l r s t p q e h = (refl, refl, e, h)
-  timer_later Sr x y l r s t p q e h = (refl, refl, e, h)
-  timer_later Rs x y l r s t p q e h = (refl, refl, e, h)
+  timer_later _ x y l r s t p q e h = (refl, refl, e, h)
 
   -- ---- counters and bistables, of which the same is stored
   counter_later : (kind : BlockKind) (x y l : Bool) (cv : ℤ) (q : Bool)
       → IsLater preset moment shift (step kind preset (Counter l cv q) x y now) (step kind preset (Counter l cv q) x y (now + shift))
   unfolding step
   counter_later Ton x y l cv q = (refl, refl, refl)
-  counter_later Tof x y l cv q = (refl, refl, refl)
-  counter_later Tp x y l cv q = (refl, refl, refl)
-  counter_later Ctu x y l cv q = (refl, refl, refl)
-  counter_later Ctd x y l cv q = (refl, refl, refl)
-  counter_later Sr x y l cv q = (refl, refl, refl)
-  counter_later Rs x y l cv q = (refl, refl, refl)
+  counter_later _ x y l cv q = (refl, refl, refl)
 
   bistable_later : (kind : BlockKind) (x y q : Bool)
       → IsLater preset moment shift (step kind preset (Bistable q) x y now) (step kind preset (Bistable q) x y (now + shift))
   unfolding step
   bistable_later Ton x y q = refl
-  bistable_later Tof x y q = refl
-  bistable_later Tp x y q = refl
-  bistable_later Ctu x y q = refl
-  bistable_later Ctd x y q = refl
-  bistable_later Sr x y q = refl
-  bistable_later Rs x y q = refl
+  bistable_later _ x y q = refl
 
   step_later : (kind : BlockKind) (x y : Bool) (s t : Stored) → IsLater preset moment shift s t → IsLater preset moment shift (step kind preset s x y now) (step kind preset t x y (now + shift))
   step_later kind x y (Timer l r s q) (Timer l2 r2 s2 q2) h =
       subst (λ (z : Stored). IsLater preset moment shift (step kind preset (Timer l r s q) x y now) (step kind preset z x y (now + shift))) (sym (timer_is l r l2 r2 q2 s2 h.0 h.1))
       (timer_later kind x y l r s s2 q q2 h.2 h.3)
-  step_later kind x y (Timer l r s q) (Counter l2 cv2 q2) h = absurd h
-  step_later kind x y (Timer l r s q) (Bistable q2) h = absurd h
-  step_later kind x y (Counter l cv q) (Timer l2 r2 s2 q2) h = absurd h
   step_later kind x y (Counter l cv q) (Counter l2 cv2 q2) h =
       subst (λ (z : Stored). IsLater preset moment shift (step kind preset (Counter l cv q) x y now) (step kind preset z x y (now + shift))) (sym (counters l2 l cv2 cv q2 q h.0 h.1 h.2))
       (counter_later kind x y l cv q)
-  step_later kind x y (Counter l cv q) (Bistable q2) h = absurd h
-  step_later kind x y (Bistable q) (Timer l2 r2 s2 q2) h = absurd h
-  step_later kind x y (Bistable q) (Counter l2 cv2 q2) h = absurd h
   step_later kind x y (Bistable q) (Bistable q2) h =
       subst (λ (z : Bool). IsLater preset moment shift (step kind preset (Bistable q) x y now) (step kind preset (Bistable z) x y (now + shift))) (sym h)
       (bistable_later kind x y q)
+  step_later kind x y _ _ h = absurd h
 
 choice_later : (preset moment shift : ℕ) (g h : Bool) (b e c f : Stored) → g ≡ h → IsLater preset moment shift b c → IsLater preset moment shift e f
     → IsLater preset moment shift (cond g b e) (cond h c f)
@@ -139,14 +121,9 @@ choice_later preset moment shift false false b e c f k p q = q
 
 q_later : (preset moment shift : ℕ) (b c : Stored) → IsLater preset moment shift b c → q_of b ≡ q_of c
 q_later preset moment shift (Timer l r s q) (Timer l2 r2 s2 q2) h = sym h.2
-q_later preset moment shift (Timer l r s q) (Counter l2 cv2 q2) h = absurd h
-q_later preset moment shift (Timer l r s q) (Bistable q2) h = absurd h
-q_later preset moment shift (Counter l cv q) (Timer l2 r2 s2 q2) h = absurd h
 q_later preset moment shift (Counter l cv q) (Counter l2 cv2 q2) h = sym h.2
-q_later preset moment shift (Counter l cv q) (Bistable q2) h = absurd h
-q_later preset moment shift (Bistable q) (Timer l2 r2 s2 q2) h = absurd h
-q_later preset moment shift (Bistable q) (Counter l2 cv2 q2) h = absurd h
 q_later preset moment shift (Bistable q) (Bistable q2) h = sym h
+q_later preset moment shift _ _ h = absurd h
 
 pub steps_later : (d : Diagram) (moment shift wait : ℕ)
     → StepsKeep d plainly plainly (λ x y. x ≡ y) (λ inst. IsLater (d.preset inst) moment shift) (moment + wait) (moment + wait + shift)

@@ -14,6 +14,7 @@ use scan_cycle::scene::instance;
 use scan_partial::Knowledge;
 use scan_signals::{Stored, Tri};
 
+/// Whether the same is known of all variables.
 fn same_values(
     program: &Program,
     before: &Knowledge<Tri, Partly>,
@@ -31,6 +32,7 @@ fn same_values(
     true
 }
 
+/// Whether the same is known of all memories of edges.
 fn same_memories(
     program: &Program,
     before: &Knowledge<Tri, Partly>,
@@ -65,6 +67,7 @@ fn starts_alike(preset: u32, moment: u64, shift: u64, start: u64, later: u64) ->
     }
 }
 
+/// Whether two stored blocks go on alike, the second one `shift` ms later: starts may differ by the shift, all else is the same.
 fn later_stored(preset: u32, moment: u64, shift: u64, before: Stored, after: Stored) -> bool
     ensures { IsTrue result ↔ StoredAlike (StartAlike preset moment shift) before after }
 {
@@ -98,6 +101,7 @@ fn later_stored(preset: u32, moment: u64, shift: u64, before: Stored, after: Sto
     }
 }
 
+/// Whether what is known of an instance goes on alike, the second one `shift` ms later.
 fn later_partly(preset: u32, moment: u64, shift: u64, before: Partly, after: Partly) -> bool
     ensures { IsTrue result ↔ PartlyAlike (StartAlike preset moment shift) before after }
 {
@@ -116,6 +120,7 @@ fn later_partly(preset: u32, moment: u64, shift: u64, before: Partly, after: Par
     }
 }
 
+/// Whether what is known of all instances goes on alike, the second one `shift` ms later.
 fn later_blocks(
     program: &Program,
     moment: u64,
@@ -157,7 +162,7 @@ pub(crate) fn is_later_known(
         && later_blocks(program, moment, shift, before, after)
 }
 
-/// Whether what is known after so many scans is what was marked, come again but for the time between.
+/// Whether what is known after `done` scans is what was marked, come again but for the time between.
 pub(crate) fn comes_again(
     program: &Program,
     watched: Watched,
@@ -187,7 +192,7 @@ pub(crate) fn comes_again(
     )
 }
 
-/// Marks what is known after so many scans where their number is a power of two, which finds a circle of any length. Returns the number
+/// Marks what is known after each number of scans that is a power of two, which finds a circle of any length. Returns the number
 /// of scans of the mark.
 pub(crate) fn renewed(
     mark: &mut Knowledge<Tri, Partly>,

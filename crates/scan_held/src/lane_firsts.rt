@@ -4,14 +4,13 @@ ghost use Rattle.std.specs.Prelude.{◌≡◌, ◌<◌, ℕ, Bool, List, All, No
 ghost use Rattle.scan_signals.specs.Relations.{AllowsAt, Both};
 ghost use Rattle.scan_partial.specs.Sizes.{HasSizes, IsSpareFor};
 ghost use Rattle.scan_held.specs.Holding.{are_no_scans, first_on, moment_of};
-ghost use Rattle.scan_symbolic.specs.KnownScan.{all_known};
 ghost use Rattle.scan_held.specs.declared.lanes.TheConstants.{LANES};
-ghost use Rattle.scan_held.specs.Lanes.{lanes};
 ghost use Rattle.scan_held.specs.SeveralLanes.{first_in_lane};
 ghost use Rattle.scan_cycle.specs.Programs.{diagram_of};
 ghost use Rattle.scan_cycle.specs.Standing.{Fits};
-ghost use Rattle.scan_signals.specs.Words.{IsBit, IsWord, word_allows, words};
+ghost use Rattle.scan_signals.specs.Words.{IsBit, IsWord, word_allows};
 
+use crate::beginning::begin;
 use crate::lane_laws::go_alone;
 use crate::lane_noting::{clear, have_all, note};
 use crate::lanes::Lanes;
@@ -20,17 +19,6 @@ use diagram_program::Program;
 use scan_cycle::State;
 use scan_partial::{Knowledge, Room, scan_known};
 use scan_signals::{Operations, Word64};
-
-/// Becomes what the state stores, in all lanes.
-fn begin(program: &Program, state: &State, known: &mut Knowledge<Word64, Lanes>)
-    requires state { Fits program.now state.now }
-    requires known { HasSizes program.now known.old }
-    ensures known { known.new ≡ all_known words lanes state.now.held }
-    ensures sizes { HasSizes program.now known.new }
-{
-    state.checked();
-    known.know(state);
-}
 
 /// Does nothing: its contract is what holds of any words.
 fn are_words(inputs: &[Word64])

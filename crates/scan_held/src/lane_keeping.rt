@@ -16,10 +16,12 @@ impl Keep<Word64> for Lanes {
 
     ghost keeps = { lanes_keep_values };
 
+    /// The same stored block in all lanes.
     fn stored(stored: Stored) -> Lanes {
         Lanes::Alike(stored)
     }
 
+    /// The Q of each lane, in its bit.
     fn q(self) -> Word64 {
         match self {
             Lanes::Alike(block) => Word64::known(block.q()),
@@ -28,7 +30,7 @@ impl Keep<Word64> for Lanes {
     }
 
     /// One step for all lanes where these are alike and each input is whole, the same in all of them; two where they store one of two and
-    /// the inputs follow the word that tells which (the first input that isn't whole, where the lanes were alike); otherwise one for each
+    /// the inputs follow the word that says which (the first input that isn't whole, where the lanes were alike); otherwise one for each
     /// lane. An input follows a word where it is the same in all lanes that are ON in it, and in all that are OFF.
     fn step(self, kind: BlockKind, preset: u32, first: Word64, second: Word64, now: u64) -> Lanes {
         let first_is_whole = first.0 == 0 || first.0 == u64::MAX;

@@ -14,7 +14,7 @@ use diagram_program::Program;
 use scan_signals::{Stored, Word64};
 use scan_symbolic::partial_laws::{StepRelation, known_is_scan, scan_keeps};
 
-/// What stands in a lane, and what is stored in it, at the moment of a scan.
+/// What is in a lane, and what is stored in it, at the moment of a scan.
 #[derive(Clone, Copy)]
 struct InLane {
     lane: u64,

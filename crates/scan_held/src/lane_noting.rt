@@ -9,7 +9,7 @@ use crate::lane_stepping::bit;
 use crate::lanes::LANES;
 use scan_signals::Word64;
 
-/// No lane has a scan.
+/// Notes for no lane a scan.
 pub(crate) fn clear(firsts: &mut [Option<u64>])
     ensures { (i : ℕ) → slice_index_or firsts.new i None ≡ None }
 {
@@ -18,7 +18,7 @@ pub(crate) fn clear(firsts: &mut [Option<u64>])
     }
 }
 
-/// Notes a scan for each lane that is ON and has none yet.
+/// Notes this scan as the first one for each lane that is ON and has none yet.
 pub(crate) fn note(value: Word64, scan: u64, firsts: &mut [Option<u64>])
     requires { length firsts.old ≡ LANES }
     ensures { (i : ℕ) → i < LANES → slice_index_or firsts.new i None ≡ noted (bit value i) scan (slice_index_or firsts.old i None) }
@@ -33,7 +33,7 @@ pub(crate) fn note(value: Word64, scan: u64, firsts: &mut [Option<u64>])
     }
 }
 
-/// Whether each lane has a scan.
+/// Whether a first scan is noted for each lane.
 pub(crate) fn have_all(firsts: &[Option<u64>]) -> bool
     ensures { IsTrue result ↔ EachIndex firsts.now (λ i. IsSome (slice_index_or firsts.now i None)) }
 {

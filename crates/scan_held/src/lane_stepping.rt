@@ -12,7 +12,7 @@ use crate::lanes::{LANES, Lanes};
 use diagram_declarations::BlockKind;
 use scan_signals::{Operations, Stored, Word64, block};
 
-/// A lane of a word.
+/// The truth value of a lane in a word.
 pub(crate) fn bit(word: Word64, lane: usize) -> bool
     requires { lane < LANES }
     ensures { result ≡ bit word lane }
@@ -20,7 +20,7 @@ pub(crate) fn bit(word: Word64, lane: usize) -> bool
     (word.0 >> lane) & 1 == 1
 }
 
-/// What a lane stores.
+/// What the instance of a lane stores.
 fn stored_in(lanes: &Lanes, lane: usize) -> Stored
     requires { lane < LANES }
     ensures { result ≡ stored_in lanes.now lane }
@@ -32,7 +32,7 @@ fn stored_in(lanes: &Lanes, lane: usize) -> Stored
     }
 }
 
-/// Each lane's own.
+/// What the lanes store, where they may all differ.
 pub(crate) fn apart(stored: &[Stored; LANES]) -> Lanes
     ensures { (f : ℕ → Stored) → ((i : ℕ) → i < LANES → slice_index_or stored.now i (new_block Ton) ≡ f i) → result ≡ apart f }
 {
@@ -48,7 +48,7 @@ pub(crate) fn apart(stored: &[Stored; LANES]) -> Lanes
     }
 }
 
-/// What the lanes store, each its own.
+/// The stored block of each lane.
 fn spread(lanes: &Lanes) -> [Stored; LANES]
     ensures { (i : ℕ) → i < LANES → slice_index_or result i (new_block Ton) ≡ stored_in lanes.now i }
 {
@@ -59,7 +59,7 @@ fn spread(lanes: &Lanes) -> [Stored; LANES]
     }
 }
 
-/// One step for each lane.
+/// The step of an instance, lane by lane.
 pub(crate) fn step_each(
     kind: BlockKind,
     preset: u32,
@@ -87,7 +87,7 @@ pub(crate) fn step_each(
     }
 }
 
-/// What lanes store of which each stores one of two: the ones that are ON in a word, and the others.
+/// What lanes store if each stores one of two: the ones that are ON in a word, and the others.
 #[derive(Clone, Copy)]
 pub(crate) struct TwoStored {
     pub word: Word64,
@@ -115,7 +115,7 @@ pub(crate) fn step_two(
     Lanes::Two { q, word, on, off }
 }
 
-/// What each lane chooses.
+/// What each lane stores after a choice between two, by its bit of the condition.
 pub(crate) fn choices(condition: Word64, on: &Lanes, off: &Lanes) -> [Stored; LANES]
     ensures { (i : ℕ) → i < LANES → slice_index_or result i (new_block Ton) ≡ chosen condition on.now off.now i }
 {

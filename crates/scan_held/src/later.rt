@@ -11,6 +11,7 @@ use scan_cycle::State;
 use scan_cycle::scene::instance;
 use scan_signals::Stored;
 
+/// Whether both states have the same values of all variables.
 fn same_values(program: &Program, before: &State, after: &State) -> bool
     requires before { Fits program.now before.now }
     requires after { Fits program.now after.now }
@@ -24,6 +25,7 @@ fn same_values(program: &Program, before: &State, after: &State) -> bool
     true
 }
 
+/// Whether both states have the same memories of edges.
 fn same_memories(program: &Program, before: &State, after: &State) -> bool
     requires before { Fits program.now before.now }
     requires after { Fits program.now after.now }
@@ -51,6 +53,8 @@ fn run_alike(preset: u32, moment: u64, shift: u64, start: u64, later: u64) -> bo
     }
 }
 
+/// Whether two stored blocks go on alike, the second one `shift` ms later: the starts of timers that run may differ by the shift,
+/// all else is the same.
 fn later_stored(preset: u32, moment: u64, shift: u64, before: Stored, after: Stored) -> bool
     ensures { IsTrue result ↔ IsLater preset moment shift before after }
 {
@@ -80,6 +84,7 @@ fn later_stored(preset: u32, moment: u64, shift: u64, before: Stored, after: Sto
     }
 }
 
+/// Whether what all instances store goes on alike, the second state `shift` ms later.
 fn later_blocks(program: &Program, moment: u64, shift: u64, before: &State, after: &State) -> bool
     requires before { Fits program.now before.now }
     requires after { Fits program.now after.now }

@@ -11,7 +11,7 @@ pub fn one_scan()
     ensures { OneScanIsCauses }
 {}
 
-/// More scans keep the rows, each with its scan.
+/// With more scans the rows stay rows, each with the same first scan.
 pub fn more_scans()
     ensures { MoreScansKeepRows }
 {}

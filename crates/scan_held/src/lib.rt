@@ -2,6 +2,7 @@
 #![tactic(auto)]
 
 mod again;
+mod beginning;
 mod fault;
 mod lane_firsts;
 mod lane_keeping;

@@ -5,12 +5,10 @@ ghost use Rattle.scan_cycle.specs.Programs.{diagram_of};
 ghost use Rattle.scan_cycle.specs.Standing.{Fits};
 ghost use Rattle.scan_partial.specs.Sizes.{HasSizes, IsSpareFor};
 ghost use Rattle.scan_held.specs.Holding.{are_no_scans, moment_of};
-ghost use Rattle.scan_symbolic.specs.KnownScan.{all_known};
-ghost use Rattle.scan_signals.specs.Three.{three};
-ghost use Rattle.scan_held.specs.Partly.{partly};
 ghost use Rattle.scan_held.specs.SeveralLaws.{first_open, known_after};
 
 use crate::again::{comes_again, renewed};
+use crate::beginning::begin;
 use crate::partly::Partly;
 use crate::partly_laws::repeats;
 use crate::scans::Watched;
@@ -24,17 +22,6 @@ use scan_signals::Tri;
 pub struct Opening {
     pub scan: u64,
     pub value: Tri,
-}
-
-/// Becomes what the state stores.
-fn begin(program: &Program, state: &State, known: &mut Knowledge<Tri, Partly>)
-    requires state { Fits program.now state.now }
-    requires known { HasSizes program.now known.old }
-    ensures known { known.new ≡ all_known three partly state.now.held }
-    ensures sizes { HasSizes program.now known.new }
-{
-    state.checked();
-    known.know(state);
 }
 
 /// Makes scans over three values, from the state on, each with these inputs, and ends with the first after which the variable isn't

@@ -16,10 +16,12 @@ impl Keep<Tri> for Partly {
 
     ghost keeps = { partly_keeps_values };
 
+    /// A stored block all of which is known.
     fn stored(stored: Stored) -> Partly {
         Partly::Exactly(stored)
     }
 
+    /// The Q of the instance, unsure where what is known doesn't say it.
     fn q(self) -> Tri {
         match self {
             Partly::Exactly(stored) => Tri::known(stored.q()),
@@ -28,6 +30,7 @@ impl Keep<Tri> for Partly {
         }
     }
 
+    /// One step; if the first input is unsure, what the steps with ON and with OFF have in common.
     fn step(self, kind: BlockKind, preset: u32, first: Tri, second: Tri, now: u64) -> Partly {
         match first {
             Tri::On => step_first(kind, preset, self, true, second, now),
@@ -40,6 +43,7 @@ impl Keep<Tri> for Partly {
         }
     }
 
+    /// The side that the condition takes; if it is unsure, what both sides have in common.
     fn choose(condition: Tri, on: Partly, off: Partly) -> Partly {
         match condition {
             Tri::On => on,

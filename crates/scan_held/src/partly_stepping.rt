@@ -1,4 +1,4 @@
-//! The step of an instance of which a part is known.
+//! The step of an instance that is known in part.
 
 ghost use Rattle.std.specs.Prelude.{◌≡◌, ◌≤◌, ℕ, Bool};
 ghost use Rattle.diagram_declarations.specs.Kind.{largest_preset};
@@ -9,7 +9,7 @@ use crate::partly::Partly;
 use diagram_declarations::BlockKind::{self, Ctd, Ctu, Rs, Sr, Tof, Ton, Tp};
 use scan_signals::{Operations, Stored, Tri, block};
 
-/// What stays known where the sort and the Q alone are kept.
+/// What is still known of an instance, if only its sort (timer, counter, bistable) and its Q are kept.
 fn sort_of(known: Partly) -> Partly
     ensures { result ≡ sort_of known }
 {
@@ -24,8 +24,8 @@ fn sort_of(known: Partly) -> Partly
     }
 }
 
-/// What is known where it is one of two, and open which: what both store, or else the sort of both, with what their Qs agree on; nothing
-/// where the sorts differ.
+/// What is known of an instance that stores one of two, and which one is open: what both store, or else their sort and what their
+/// Qs agree on; nothing where the sorts differ.
 pub(crate) fn merged(one: Partly, other: Partly) -> Partly
     ensures { result ≡ merged one other }
 {
@@ -61,7 +61,7 @@ pub(crate) fn merged(one: Partly, other: Partly) -> Partly
     }
 }
 
-/// A timer of which the Q alone was known.
+/// What is known after the step of a timer of which only the Q was known.
 #[tactic(auto, unfolding(crate::specs::Partly::step_known))]
 fn timer(kind: BlockKind, q: Tri, first: bool) -> Partly
     ensures { (preset now : ℕ) (second : Bool) → result ≡ step_known kind preset (sort.SomeTimer q) first second now }
@@ -84,7 +84,7 @@ fn timer(kind: BlockKind, q: Tri, first: bool) -> Partly
     }
 }
 
-/// A counter of which the Q alone was known.
+/// What is known after the step of a counter of which only the Q was known.
 #[tactic(auto, unfolding(crate::specs::Partly::step_known))]
 fn counter(kind: BlockKind, preset: u32, q: Tri, first: bool, second: bool) -> Partly
     requires { preset ≤ largest_preset kind }
@@ -106,7 +106,7 @@ fn counter(kind: BlockKind, preset: u32, q: Tri, first: bool, second: bool) -> P
     }
 }
 
-/// A bistable of which the Q may be open.
+/// What is known after the step of a bistable whose Q may be open.
 #[tactic(auto, unfolding(crate::specs::Partly::step_known))]
 fn bistable(kind: BlockKind, q: Tri, first: bool, second: bool) -> Partly
     ensures { (preset now : ℕ) → result ≡ step_known kind preset (sort.SomeBistable q) first second now }
@@ -120,7 +120,7 @@ fn bistable(kind: BlockKind, q: Tri, first: bool, second: bool) -> Partly
     }
 }
 
-/// A step with known inputs.
+/// What is known of an instance after a step whose inputs are both known.
 #[tactic(auto, unfolding(crate::specs::Partly::step_known))]
 fn step_known(
     kind: BlockKind,
@@ -144,7 +144,8 @@ fn step_known(
     }
 }
 
-/// A step whose first input is known: by the second one, what is left with its value, or with either where it is open.
+/// What is known of an instance after a step whose first input is known: if the second one is open, what the steps with either
+/// value have in common.
 pub(crate) fn step_first(
     kind: BlockKind,
     preset: u32,

@@ -49,7 +49,7 @@ pub fn are_no_scans(first: u64, scans: Scans) -> bool
     }
 }
 
-/// Whether the state after so many scans is the marked one come again, but for the time between.
+/// Whether the state after a number of scans is the marked one come again, but for the time between.
 fn comes_again(
     program: &Program,
     first: u64,
@@ -74,7 +74,7 @@ fn comes_again(
     is_later(program, moment, scans.every * (done - marked), mark, state)
 }
 
-/// Marks the state after so many scans where their number is a power of two, which finds a circle of states of any length. Returns the
+/// Marks the state after each number of scans that is a power of two, which finds a circle of states of any length. Returns the
 /// number of scans of the mark.
 fn renewed(program: &Program, mark: &mut State, marked: u64, state: &State, done: u64) -> u64
     requires mark { Fits program.now mark.old }

@@ -1,4 +1,4 @@
-//! Two states of which one is the other again, later.
+//! Two states, the second of which is the first one come again, later.
 
 ghost use Rattle.std.specs.Prelude.{◌≡◌, ◌+◌};
 ghost use Rattle.scan_symbolic.specs.KnownScan.{plainly};

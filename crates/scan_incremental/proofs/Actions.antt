@@ -1,33 +1,23 @@
 -- What a cell changes disturbs no rung that does not use it.
-use Rattle.std.proofs.Common.{◌≡◌, ℕ, Bool, true, false, List, [], ◌∷◌, map, get_or, set, zero, suc, Option, Some, None, refl, sym, ap, ◌∙◌, subst, get_or-set_other}
+use Rattle.std.proofs.Common.{◌≡◌, ℕ, Bool, true, false, List, ◌∷◌, map, get_or, set, zero, suc, refl, sym, ap, ◌∙◌, subst}
 use Rattle.diagram_program.specs.declared.cell.Cell.{Cell}
 use Rattle.diagram_program.specs.Program.{memory_in, block_in}
 use Rattle.scan_signals.specs.Blocks.{q_of, new_block}
 use Rattle.diagram_declarations.specs.declared.kind.BlockKind.TheVariants.{Ton}
 use Rattle.scan_cycle.proofs.Kept.{stored_of}
-use Rattle.scan_cycle.specs.Cells.{Diagram, Frame, at, put_in, var_in, memory_of}
+use Rattle.scan_cycle.specs.Cells.{Diagram, Frame, var_in, memory_of}
 use Rattle.scan_cycle.specs.Rung.{Held, changed, SameLengths}
 use Rattle.scan_cycle.specs.Laws.{Once}
-use Rattle.scan_cycle.proofs.Changes.{changed_is}
+use Rattle.scan_cycle.proofs.Changes.{changed_is, at_same, put_other}
 use Rattle.scan_cycle.proofs.Sizes.{size-put_in}
 use Rattle.scan_incremental.specs.Resting.{UsedBy, marked}
 use Rattle.scan_incremental.proofs.Frames.{IsUndisturbed}
 
-at_same : {A : Type 0} (xs ys : List A) (m : Option ℕ) (d : A) → ((i : ℕ) → m ≡ Some i → get_or xs i d ≡ get_or ys i d) → at xs m d ≡ at ys m d
-at_same xs ys None d h = refl
-at_same xs ys (Some i) d h = h i refl
-
-put_other : {A : Type 0} (xs : List A) (m : Option ℕ) (v d : A) (i : ℕ) → (m ≡ Some i → ⊥) → get_or (put_in xs m v) i d ≡ get_or xs i d
-put_other xs None v d i h = refl
-put_other xs (Some n) v d i h = get_or-set_other xs n i v d (λ e. h (ap Some (sym e)))
-
 -- an entry that is set to what it was, as far as it is read, leaves all entries
 pub set_quiet : {A : Type 0} (xs : List A) (i : ℕ) (x : A) (j : ℕ) (d : A) → get_or (set xs i x) i d ≡ get_or xs i d → get_or (set xs i x) j d ≡ get_or xs j d
-set_quiet [] i x j d e = refl
 set_quiet (y ∷ xs) zero x zero d e = e
-set_quiet (y ∷ xs) zero x (suc j) d e = refl
-set_quiet (y ∷ xs) (suc i) x zero d e = refl
 set_quiet (y ∷ xs) (suc i) x (suc j) d e = set_quiet xs i x j d e
+set_quiet _ _ x _ d e = refl
 
 pub same_lengths : (d : Diagram) (now : ℕ) (start : Frame Bool) (c : Cell) (x y : Bool) (h : Held) → SameLengths (changed d now start c x y h) h
 same_lengths d now start c x y h =

@@ -41,14 +41,8 @@ pub record AlikeAt (h g : Held) (c : Cell) : Type 0 where
 
 -- ---- power flow
 closed_same : (h g : Held) (c : Cell) → AlikeAt h g c → closed plain (frame_of g) (memory_of g.kept c) c ≡ closed plain (frame_of h) (memory_of h.kept c) c
-closed_same h g Empty a = refl
-closed_same h g Wire a = refl
 closed_same h g (Contact mode operand memory) a = ap₂ (contact plain mode) a.read a.memory
-closed_same h g (Coil mode var memory) a = refl
-closed_same h g (Block inst) a = refl
-closed_same h g (Lower inst linked) a = refl
-closed_same h g (Jump target) a = refl
-closed_same h g Return a = refl
+closed_same h g _ a = refl
 
 -- the Q of a block whose step leaves it as it is
 q_stays : (d : Diagram) (now inst : ℕ) (s : Stored) (x y : Bool) → step (d.kind inst) (d.preset inst) s x y now ≡ s → q_from plain (d.kind inst) (d.preset inst) s now x y ≡ q_of s
@@ -148,8 +142,6 @@ put_still xs ys (Some i) x d l e s = set_still xs ys i x d l e s
 -- a cell that changes nothing in one of two alike states changes nothing in the other
 stays_same : (d : Diagram) (now : ℕ) (h g : Held) (c : Cell) (x y u v : Bool) → SameLengths g h → AlikeAt h g c
     → u ≡ x → v ≡ y → Stays d now (frame_of h) h c x y → Stays d now (frame_of g) g c u v
-stays_same d now h g Empty x y u v l a e f k = refl
-stays_same d now h g Wire x y u v l a e f k = refl
 stays_same d now h g (Contact mode operand memory) x y u v l a e f k =
     ap (λ z. held g.values (put_in g.kept.memories memory z) g.kept.blocks) a.read
     ∙ ap (λ ms. held g.values ms g.kept.blocks) (put_still h.kept.memories g.kept.memories memory (operand_value plain (frame_of h) operand) false l.memories a.memory (ap (λ (z : Held). z.kept.memories) k))
@@ -166,20 +158,14 @@ stays_same d now h g (Block inst) x y u v l a e f k =
     ap (λ z. step (d.kind inst) (d.preset inst) z u v now) a.stored
     ∙ ap₂ (λ m n. step (d.kind inst) (d.preset inst) (get_or h.kept.blocks inst (new_block Ton)) m n now) e f
     ∙ k ∙ sym a.stored
-stays_same d now h g (Lower inst linked) x y u v l a e f k = refl
-stays_same d now h g (Jump target) x y u v l a e f k = refl
-stays_same d now h g Return x y u v l a e f k = refl
+stays_same d now h g _ x y u v l a e f k = refl
 
 stays_changed : (d : Diagram) (now : ℕ) (start : Frame Bool) (h : Held) (c : Cell) (x y : Bool) → Stays d now start h c x y → changed d now start c x y h ≡ h
-stays_changed d now start h Empty x y k = refl
-stays_changed d now start h Wire x y k = refl
 stays_changed d now start h (Contact mode operand memory) x y k = k
 stays_changed d now start h (Coil mode var memory) x y k = k
 stays_changed d now start h (Block inst) x y k =
     ap (λ z. held h.values h.kept.memories (set h.kept.blocks inst z)) k ∙ ap (held h.values h.kept.memories) (set-get_or h.kept.blocks inst (new_block Ton))
-stays_changed d now start h (Lower inst linked) x y k = refl
-stays_changed d now start h (Jump target) x y k = refl
-stays_changed d now start h Return x y k = refl
+stays_changed d now start h _ x y k = refl
 
 next_same : (d : Diagram) (now then j : ℕ) (h g : Held) → ((e : ℕ) → link_at d now j g e ≡ link_at d then j h e) → next_rung d now j g ≡ next_rung d then j h
 next_same d now then j h g same = after_same j (d.jump j) (link_at d now j g) (link_at d then j h) (λ place target e. same place)
@@ -249,15 +235,10 @@ same_number n = grind (arith, nat_tests)
 alike_cell : (h g : Held) (c : Cell) → ((v : ℕ) → uses_variable v c ≡ true → get_or g.values v false ≡ get_or h.values v false)
     → ((i : ℕ) → uses_output i c ≡ true → get_or (map q_of g.kept.blocks) i false ≡ get_or (map q_of h.kept.blocks) i false)
     → memory_of g.kept c ≡ memory_of h.kept c → stored_of g.kept c ≡ stored_of h.kept c → AlikeAt h g c
-alike_cell h g Empty v o m s = record { read = refl; written = refl; memory = m; stored = s }
-alike_cell h g Wire v o m s = record { read = refl; written = refl; memory = m; stored = s }
 alike_cell h g (Contact mode (Var var) memory) v o m s = record { read = v var (same_number var); written = refl; memory = m; stored = s }
 alike_cell h g (Contact mode (Output inst) memory) v o m s = record { read = o inst (same_number inst); written = refl; memory = m; stored = s }
 alike_cell h g (Coil mode var memory) v o m s = record { read = refl; written = v var (same_number var); memory = m; stored = s }
-alike_cell h g (Block inst) v o m s = record { read = refl; written = refl; memory = m; stored = s }
-alike_cell h g (Lower inst linked) v o m s = record { read = refl; written = refl; memory = m; stored = s }
-alike_cell h g (Jump target) v o m s = record { read = refl; written = refl; memory = m; stored = s }
-alike_cell h g Return v o m s = record { read = refl; written = refl; memory = m; stored = s }
+alike_cell h g _ v o m s = record { read = refl; written = refl; memory = m; stored = s }
 
 pub rests_on : (d : Diagram) → IsSound d → (u : UsedBy) → AreUsers d u → (moment j n : ℕ) → j < d.rungs → (h g : Held) → IsUndisturbed d u j h g → Rests d moment h j n → Rests d moment g j n
 rests_on d sound u users moment j n lt h g is r =

@@ -1,7 +1,6 @@
 -- The inputs, and whom they wake.
 use Rattle.std.proofs.Common.{◌≡◌, ℕ, ◌<◌, ◌≤◌, Bool, true, false, List, [], ◌∷◌, zero, suc, nat_lt, arith, inl, inr, length, map, get_or, Option, Some, sym, refl, ap, ◌∙◌, subst}
-use Rattle.std.proofs.lemmas.Bool.{cases_Bool}
-use Rattle.std.proofs.lemmas.Bool.Decides.{nat_tests}
+use Rattle.std.proofs.lemmas.Bool.{cases_Bool, ltb-true, ltb-false}
 use Rattle.scan_signals.specs.Blocks.{q_of}
 use Rattle.scan_cycle.specs.Cells.{Diagram, memory_of}
 use Rattle.scan_cycle.specs.Rung.{Held, SameLengths}
@@ -48,18 +47,12 @@ past [] v le = refl
 past (x ∷ xs) zero le = absurd (omega arith)
 past (x ∷ xs) (suc v) le = past xs v (omega arith)
 
-is_below : (v n : ℕ) → nat_lt v n ≡ true → v < n
-is_below v n h = grind (arith, nat_tests)
-
-is_past : (v n : ℕ) → nat_lt v n ≡ false → n ≤ v
-is_past v n h = grind (arith, nat_tests)
-
 -- what is the same below the end is the same everywhere
 pub same_past : (xs ys : List Bool) (v n : ℕ) → length xs ≤ n → length ys ≤ n → ((v < n) → get_or xs v false ≡ get_or ys v false) → get_or xs v false ≡ get_or ys v false
 same_past xs ys v n lx ly h = elim (cases_Bool (nat_lt v n)) [
-  | inl t ↦ h (is_below v n t)
+  | inl t ↦ h (ltb-true v n t)
   | inr t ↦
-      let le : n ≤ v = is_past v n t in
+      let le : n ≤ v = ltb-false v n t in
       past xs v (omega arith) ∙ sym (past ys v (omega arith))
 ]
 

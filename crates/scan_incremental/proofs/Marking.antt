@@ -1,6 +1,6 @@
 -- All that a rung uses is marked once each of its cells was.
-use Rattle.std.proofs.Common.{◌≡◌, ℕ, ◌<◌, Bool, true, false, cond, refl, subst, nat_lt, arith}
-use Rattle.std.proofs.lemmas.Bool.Decides.{nat_tests}
+use Rattle.std.proofs.Common.{◌≡◌, ℕ, ◌<◌, Bool, true, false, cond, refl, subst, nat_lt}
+use Rattle.std.proofs.lemmas.Bool.{ltb-true}
 use Rattle.diagram_program.specs.declared.geometry.TheConstants.{PLACES}
 use Rattle.diagram_program.specs.declared.cell.Cell.{Cell}
 use Rattle.diagram_program.specs.declared.cell.Cell.TheVariants.{Empty}
@@ -8,11 +8,8 @@ use Rattle.diagram_program.specs.Program.{Drawing, cell_of}
 use Rattle.scan_cycle.specs.Programs.{diagram_of}
 use Rattle.scan_incremental.specs.Resting.{UsedBy, AreUsers, HasCell}
 
-is_below : (e n : ℕ) → nat_lt e n ≡ true → e < n
-is_below e n h = grind (arith, nat_tests)
-
 has_either : (u : UsedBy) (j e n : ℕ) (c : Cell) (b : Bool) → nat_lt e n ≡ b → ((e < n) → HasCell u j (cond b c Empty)) → HasCell u j (cond b c Empty)
-has_either u j e n c true t h = h (is_below e n t)
+has_either u j e n c true t h = h (ltb-true e n t)
 has_either u j e n c false t h = record { variables = λ v k. absurd cc; outputs = λ i k. absurd cc }
 
 has_each : (p : Drawing) (u : UsedBy) (j e : ℕ) → ((e < PLACES) → HasCell u j ((diagram_of p).cell j e)) → HasCell u j ((diagram_of p).cell j e)

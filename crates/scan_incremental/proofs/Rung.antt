@@ -1,12 +1,13 @@
 -- The actions of a rung, and what they wake.
 use Rattle.std.proofs.Common.{◌≡◌, ℕ, ◌+◌, ◌<◌, ◌≤◌, Bool, true, false, cond, List, [], ◌∷◌, length, map, get_or, set, zero, suc, Option, Some, None, refl, sym, ap, ◌∙◌, subst, get_or-set_other, drop, take, take_all, ◌≢◌, nat_lt, nat_eq, arith, All, inl, inr}
-use Rattle.std.proofs.lemmas.Bool.{cases_Bool}
+use Rattle.std.proofs.lemmas.Bool.{cases_Bool, cond-true, cond-false, ltb-true, eqb-true}
 use Rattle.std.proofs.lemmas.Bool.Decides.{nat_tests}
 use Rattle.std.proofs.lemmas.List.{map-set}
 use Rattle.std.proofs.lemmas.List.Elements.{All-append, All-nil, All-get_or, All-more, All-pop}
+use Rattle.std.proofs.lemmas.Option.{none-some}
 use Rattle.diagram_program.specs.declared.geometry.TheConstants.{PLACES}
 use Rattle.diagram_program.specs.declared.cell.Cell.{Cell}
-use Rattle.diagram_program.specs.declared.cell.Cell.TheVariants.{Empty, Wire, Contact, Coil, Block, Lower, Jump, Return}
+use Rattle.diagram_program.specs.declared.cell.Cell.TheVariants.{Empty, Contact, Coil, Block}
 use Rattle.diagram_program.specs.declared.gates.Action.{Action}
 use Rattle.diagram_program.specs.Program.{Drawing, cell_of}
 use Rattle.diagram_program.specs.Gates.{below_of, acts, action_at, actions_before, actions_of}
@@ -20,11 +21,11 @@ use Rattle.scan_cycle.specs.Programs.{diagram_of, IsSound}
 use Rattle.scan_cycle.specs.Gating.{among, changes_of, AreLinks}
 use Rattle.scan_cycle.specs.Scan.{next_rung}
 use Rattle.scan_cycle.proofs.Turns.{changes_more}
-use Rattle.scan_cycle.proofs.Acting.{cond_true, cond_false, all_one}
 use Rattle.scan_cycle.proofs.Feeders.{cell_is}
 use Rattle.scan_incremental.specs.Resting.{UsedBy, AreUsers, AreWoken, AllRest, IsStill, Stays, IsWoken, marked, known_next, Rests}
 use Rattle.scan_incremental.proofs.Frames.{rests_on, comes_to_rest}
 use Rattle.scan_incremental.proofs.Actions.{set_quiet, undisturbed}
+use Rattle.scan_cycle.proofs.GateLaws.{all_one}
 
 -- ---- whom a cell wakes
 off_on : (b : Bool) → b ≡ true → b ≡ false → ⊥
@@ -63,16 +64,10 @@ by_block_quiet u h g i x next v b e = record {
 
 block_values : (d : Diagram) (now : ℕ) (start : Frame Bool) (c : Cell) (i : ℕ) (x y : Bool) (h : Held) → c ≡ Block i
     → ((changed d now start c x y h).values ≡ h.values) × ((changed d now start c x y h).kept.blocks ≡ set h.kept.blocks i (step (d.kind i) (d.preset i) (get_or h.kept.blocks i (new_block Ton)) x y now))
-block_values d now start Empty i x y h e = absurd cc
-block_values d now start Wire i x y h e = absurd cc
-block_values d now start (Contact mode operand memory) i x y h e = absurd cc
-block_values d now start (Coil mode var memory) i x y h e = absurd cc
 block_values d now start (Block inst) i x y h e =
     let same : inst ≡ i = cc in
     (refl, ap (λ n. set h.kept.blocks n (step (d.kind n) (d.preset n) (get_or h.kept.blocks n (new_block Ton)) x y now)) same)
-block_values d now start (Lower inst linked) i x y h e = absurd cc
-block_values d now start (Jump target) i x y h e = absurd cc
-block_values d now start Return i x y h e = absurd cc
+block_values d now start _ i x y h e = absurd cc
 
 module _ (u : UsedBy) (d : Diagram) (now : ℕ) (start : Frame Bool) (c : Cell) (i : ℕ) (x y : Bool) (h g : Held) (is : c ≡ Block i) (e : g ≡ changed d now start c x y h) where
   pub block_woken : (old new : List (Option ℕ)) → IsWoken u.outputs i old new → AreWoken u h g old new
@@ -86,15 +81,12 @@ module _ (u : UsedBy) (d : Diagram) (now : ℕ) (start : Frame Bool) (c : Cell) 
       by_block_quiet u h g i _ next (ap (λ (z : Held). z.values) e ∙ b.0) (ap (λ (z : Held). z.kept.blocks) e ∙ b.1) q
 
 -- ---- the rungs that rest, from action to action
-none_some : {A : Type 0} {x : A} → None ≡ Some x → ⊥
-none_some e = cc
-
 no_more : (o : Option ℕ) → ((n : ℕ) → o ≡ Some n → ⊥) → o ≡ None
 no_more None h = refl
 no_more (Some n) h = absurd (h n refl)
 
 pub still_awake : (u : UsedBy) (h g : Held) (old new : List (Option ℕ)) (j : ℕ) → AreWoken u h g old new → known_next old j ≡ None → known_next new j ≡ None
-still_awake u h g old new j w off = no_more (known_next new j) (λ n on. none_some (sym off ∙ w.known j n on))
+still_awake u h g old new j w off = no_more (known_next new j) (λ n on. none-some _ (sym off ∙ w.known j n on))
 
 pub still_rest : (d : Diagram) → IsSound d → (u : UsedBy) → AreUsers d u → (now j e : ℕ) (start : Frame Bool) (c : Cell) (x y : Bool) (h g : Held) (old new : List (Option ℕ))
     → c ≡ d.cell j e → g ≡ changed d now start c x y h → AreWoken u h g old new → known_next old j ≡ None → AllRest d now h old → AllRest d now g new
@@ -103,7 +95,7 @@ still_rest d sound u users now j e start c x y h g old new at is w off r = recor
   rests = λ i n k.
       rests_on d sound u users now i n (r.within i n (w.known i n k)) h g
       (undisturbed d sound.once u now j e i start x y h g (is ∙ ap (λ (z : Cell). changed d now start z x y h) at)
-      (λ same. none_some (sym off ∙ sym (ap (known_next old) same) ∙ w.known i n k)) (λ v. w.variables i n v k) (λ v. w.outputs i n v k))
+      (λ same. none-some _ (sym off ∙ sym (ap (known_next old) same) ∙ w.known i n k)) (λ v. w.variables i n v k) (λ v. w.outputs i n v k))
       (r.rests i n (w.known i n k));
 }
 
@@ -123,9 +115,9 @@ from_before : (p : Drawing) (j n : ℕ) → n ≤ PLACES → All (IsFrom p j) (a
 unfolding actions_before
 from_before p j zero h = All-nil _
 from_before p j (suc n) h = elim (cases_Bool (acts (cell_of p j n))) [
-  | inl t ↦ subst (λ (xs : List Action). All (IsFrom p j) xs) (sym (cond_true (acts (cell_of p j n)) _ _ t))
+  | inl t ↦ subst (λ (xs : List Action). All (IsFrom p j) xs) (sym (cond-true (acts (cell_of p j n)) _ _ t))
       (All-append (IsFrom p j) (actions_before p j n) _ (from_before p j n (omega arith)) (all_one (IsFrom p j) (action_at p j n) (n, sym (cell_is p j n (omega arith)))))
-  | inr t ↦ subst (λ (xs : List Action). All (IsFrom p j) xs) (sym (cond_false (acts (cell_of p j n)) _ _ t)) (from_before p j n (omega arith))
+  | inr t ↦ subst (λ (xs : List Action). All (IsFrom p j) xs) (sym (cond-false (acts (cell_of p j n)) _ _ t)) (from_before p j n (omega arith))
 ]
 
 pub from_rung : (p : Drawing) (j : ℕ) → All (IsFrom p j) (actions_of p j)
@@ -148,14 +140,8 @@ acted p sound u users now j start links xs is i a lt h g old new e w off r =
     )
 
 -- ---- where each action leaves all as it is, each cell does
-is_below : (e n : ℕ) → nat_lt e n ≡ true → e < n
-is_below e n h = grind (arith, nat_tests)
-
 is_last : (e n : ℕ) → e < suc n → nat_lt e n ≡ false → n ≡ e
 is_last e n lt h = grind (arith, nat_tests)
-
-is_same : (i j : ℕ) → nat_eq i j ≡ true → i ≡ j
-is_same i j h = grind (arith, nat_tests)
 
 is_apart : (i j : ℕ) → nat_eq i j ≡ false → i ≢ j
 is_apart i j h = grind (arith, nat_tests)
@@ -169,15 +155,10 @@ module _ (p : Drawing) (now j : ℕ) (h : Held) (links : List Bool) (are : AreLi
   IsStillAt c e = (later : ℕ) → now ≤ later → Stays (diagram_of p) later (frame_of h) h c (link_at (diagram_of p) now j h e) (second plain (diagram_of p) j (link_at (diagram_of p) now j h) e)
 
   no_act : (c : Cell) (e : ℕ) → acts c ≡ false → IsStillAt c e
-  no_act Empty e t = λ later le. refl
-  no_act Wire e t = λ later le. refl
-  no_act (Contact mode operand None) e t = λ later le. refl
   no_act (Contact mode operand (Some memory)) e t = absurd cc
   no_act (Coil mode var memory) e t = absurd cc
   no_act (Block inst) e t = absurd cc
-  no_act (Lower inst linked) e t = λ later le. refl
-  no_act (Jump target) e t = λ later le. refl
-  no_act Return e t = λ later le. refl
+  no_act _ e t = λ later le. refl
 
   by_action : (e : ℕ) → e < PLACES → IsStill (diagram_of p) now (frame_of h) links h (action_at p j e) → IsStillAt (cell_of p j e) e
   by_action e lt s = λ later le.
@@ -186,7 +167,7 @@ module _ (p : Drawing) (now j : ℕ) (h : Held) (links : List Bool) (are : AreLi
 
   last_or_before : (n e : ℕ) → e < suc n → ((e < n) → IsStillAt (cell_of p j e) e) → IsStillAt (cell_of p j n) n → IsStillAt (cell_of p j e) e
   last_or_before n e lt before last = elim (cases_Bool (nat_lt e n)) [
-    | inl t ↦ before (is_below e n t)
+    | inl t ↦ before (ltb-true e n t)
     | inr t ↦ subst (λ (m : ℕ). IsStillAt (cell_of p j m) m) (is_last e n lt t) last
   ]
 
@@ -197,15 +178,15 @@ module _ (p : Drawing) (now j : ℕ) (h : Held) (links : List Bool) (are : AreLi
     | inl t ↦
         let Q = IsStill (diagram_of p) now (frame_of h) links h in
         let parts : All Q (actions_before p j n) × Q (action_at p j n) =
-        All-pop Q _ (actions_before p j n) (Some (action_at p j n)) (cond_true (acts (cell_of p j n)) _ _ t) all in
+        All-pop Q _ (actions_before p j n) (Some (action_at p j n)) (cond-true (acts (cell_of p j n)) _ _ t) all in
         last_or_before n e lt (by_before n (omega arith) parts.0 e) (by_action n (omega arith) parts.1)
     | inr t ↦
-        let rest = subst (λ (xs : List Action). All (IsStill (diagram_of p) now (frame_of h) links h) xs) (cond_false (acts (cell_of p j n)) _ _ t) all in
+        let rest = subst (λ (xs : List Action). All (IsStill (diagram_of p) now (frame_of h) links h) xs) (cond-false (acts (cell_of p j n)) _ _ t) all in
         last_or_before n e lt (by_before n (omega arith) rest e) (no_act (cell_of p j n) n t)
   ]
 
   cell_either : (e : ℕ) (b : Bool) → nat_lt e PLACES ≡ b → ((e < PLACES) → IsStillAt (cell_of p j e) e) → IsStillAt (cond b (cell_of p j e) Empty) e
-  cell_either e true t h = h (is_below e PLACES t)
+  cell_either e true t h = h (ltb-true e PLACES t)
   cell_either e false t h = λ later le. refl
 
   pub all_still : All (IsStill (diagram_of p) now (frame_of h) links h) (actions_of p j) → (e : ℕ) → IsStillAt ((diagram_of p).cell j e) e
@@ -222,18 +203,18 @@ at_rest p now j h start links s are all =
     comes_to_rest (diagram_of p) now j h (all_still p now j h links are' all')
 
 set_read : (xs : List (Option ℕ)) (j n m : ℕ) → get_or (set xs j (Some n)) j None ≡ Some m → n ≡ m
-set_read [] j n m e = absurd (none_some e)
+set_read [] j n m e = absurd (none-some _ e)
 set_read (x ∷ xs) zero n m e = cc
 set_read (x ∷ xs) (suc j) n m e = set_read xs j n m e
 
 pub put_to_rest : (d : Diagram) (now : ℕ) (h : Held) (j n : ℕ) (next : List (Option ℕ)) → j < d.rungs → Rests d now h j n → AllRest d now h next → AllRest d now h (set next j (Some n))
 put_to_rest d now h j n next lt r all = record {
   within = λ i m k. elim (cases_Bool (nat_eq i j)) [
-    | inl t ↦ subst (λ (x : ℕ). x < d.rungs) (sym (is_same i j t)) lt
+    | inl t ↦ subst (λ (x : ℕ). x < d.rungs) (sym (eqb-true i j t)) lt
     | inr t ↦ all.within i m (sym (get_or-set_other next j i (Some n) None (is_apart i j t)) ∙ k)
   ];
   rests = λ i m k. elim (cases_Bool (nat_eq i j)) [
-    | inl t ↦ subst (λ (x : ℕ). Rests d now h x m) (sym (is_same i j t)) (subst (λ (x : ℕ). Rests d now h j x) (set_read next j n m (sym (ap (known_next (set next j (Some n))) (is_same i j t)) ∙ k)) r)
+    | inl t ↦ subst (λ (x : ℕ). Rests d now h x m) (sym (eqb-true i j t)) (subst (λ (x : ℕ). Rests d now h j x) (set_read next j n m (sym (ap (known_next (set next j (Some n))) (eqb-true i j t)) ∙ k)) r)
     | inr t ↦ all.rests i m (sym (get_or-set_other next j i (Some n) None (is_apart i j t)) ∙ k)
   ];
 }

@@ -2,7 +2,7 @@
 use Rattle.std.proofs.Common.{◌≡◌, ℕ, ◌-◌, ◌≤◌, Bool, true, false, cond, nat_le, nat_lt, sym, ap, ◌∙◌, arith}
 use Rattle.std.proofs.lemmas.Bool.Decides.{nat_tests}
 use Rattle.diagram_declarations.specs.declared.kind.BlockKind.{BlockKind}
-use Rattle.diagram_declarations.specs.declared.kind.BlockKind.TheVariants.{Ton, Tof, Tp, Ctu, Ctd, Sr, Rs}
+use Rattle.diagram_declarations.specs.declared.kind.BlockKind.TheVariants.{Ton, Tof, Tp}
 use Rattle.scan_signals.specs.declared.block.Stored.{Stored}
 use Rattle.scan_signals.specs.declared.block.Stored.TheVariants.{Timer, Counter, Bistable}
 use Rattle.scan_signals.specs.Blocks.{step}
@@ -35,38 +35,21 @@ timer_stays Ton preset last true start true true y now later le h e =
     ap (λ b. Timer true true start b) (still_over preset now later start le over ∙ sym over) ∙ e
 timer_stays Ton preset last true start false true y now later le h e = absurd (on_off h)
 timer_stays Ton preset last false start q true y now later le h e = absurd (runs_not last _ q _ start e)
-timer_stays Ton preset last running start q false y now later le h e = e
 timer_stays Tof preset last true start q x y now later le h e = absurd (on_off h)
 timer_stays Tof preset last false start q true y now later le h e = e
 timer_stays Tof preset true false start q false y now later le h e = absurd (fell _ _ q _ start e)
-timer_stays Tof preset false false start q false y now later le h e = e
 timer_stays Tp preset last true start q x y now later le h e = absurd (on_off h)
 timer_stays Tp preset last false start q false y now later le h e = e
-timer_stays Tp preset true false start q true y now later le h e = e
 timer_stays Tp preset false false start q true y now later le h e = absurd (rose (nat_lt 0 preset) q now start e)
-timer_stays Ctu preset last running start q x y now later le h e = e
-timer_stays Ctd preset last running start q x y now later le h e = e
-timer_stays Sr preset last running start q x y now later le h e = e
-timer_stays Rs preset last running start q x y now later le h e = e
+timer_stays _ preset _ _ start q _ y now later le h e = e
 
 pub settled_stays : (kind : BlockKind) (preset : ℕ) (s : Stored) (x y : Bool) (now later : ℕ) → now ≤ later → is_settled kind s ≡ true
     → step kind preset s x y now ≡ s → step kind preset s x y later ≡ s
 unfolding step
 settled_stays kind preset (Timer last running start q) x y now later le h e = timer_stays kind preset last running start q x y now later le h e
 settled_stays Ton preset (Counter last cv q) x y now later le h e = e
-settled_stays Tof preset (Counter last cv q) x y now later le h e = e
-settled_stays Tp preset (Counter last cv q) x y now later le h e = e
-settled_stays Ctu preset (Counter last cv q) x y now later le h e = e
-settled_stays Ctd preset (Counter last cv q) x y now later le h e = e
-settled_stays Sr preset (Counter last cv q) x y now later le h e = e
-settled_stays Rs preset (Counter last cv q) x y now later le h e = e
 settled_stays Ton preset (Bistable q) x y now later le h e = e
-settled_stays Tof preset (Bistable q) x y now later le h e = e
-settled_stays Tp preset (Bistable q) x y now later le h e = e
-settled_stays Ctu preset (Bistable q) x y now later le h e = e
-settled_stays Ctd preset (Bistable q) x y now later le h e = e
-settled_stays Sr preset (Bistable q) x y now later le h e = e
-settled_stays Rs preset (Bistable q) x y now later le h e = e
+settled_stays _ preset _ x y now later le h e = e
 
 -- the same by other names for the kind, the preset and what is stored
 pub stays_by : (kind : BlockKind) (preset : ℕ) (s : Stored) (k : BlockKind) (p : ℕ) (t : Stored) (x y : Bool) (now later : ℕ) → now ≤ later → k ≡ kind → p ≡ preset → t ≡ s

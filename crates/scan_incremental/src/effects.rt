@@ -23,7 +23,7 @@ use scan_cycle::scene::{Scene, instance};
 use scan_cycle::storage::Storage;
 use scan_signals::{Stored, block};
 
-/// Whether a memory has the value already.
+/// Whether the memory of a cell already has the value that it would be given.
 fn has_memory(storage: &Storage, memory: Option<usize>, value: bool) -> bool
     ensures { IsTrue result → put_in storage.now.kept.memories memory value ≡ storage.now.kept.memories }
 {
@@ -33,7 +33,8 @@ fn has_memory(storage: &Storage, memory: Option<usize>, value: bool) -> bool
     }
 }
 
-/// Whether what an instance stores changes at no later moment, where its step leaves it as it is.
+/// Whether a later moment makes no difference to an instance that its step leaves as it is: no timer runs, except an on-delay that
+/// is over.
 fn is_settled(kind: BlockKind, stored: Stored) -> bool
     ensures { result ≡ is_settled kind stored }
 {
@@ -123,7 +124,7 @@ pub(crate) fn are_still(
     true
 }
 
-/// What one action changes, and whom it wakes.
+/// Makes what one action changes, and wakes the rungs that use what it changed.
 fn run_action(
     scene: Scene<'_>,
     start: &Image<bool>,
@@ -164,7 +165,7 @@ fn run_action(
     }
 }
 
-/// The effects of a rung that isn't known to rest, by column, then row.
+/// Makes the changes of a rung that isn't known to rest, by column, then row, and wakes the rungs that use what changed.
 pub(crate) fn act_each(
     scene: Scene<'_>,
     start: &Image<bool>,

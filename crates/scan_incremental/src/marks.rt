@@ -27,7 +27,7 @@ impl Model for Users {
     ghost view = { λ u. record { variables = map (λ v. v.items) u.variables.items; outputs = map (λ v. v.items) u.outputs.items } };
 }
 
-/// The marks of a variable or an output, and none past the last one.
+/// The marks of a variable or an output, one for each rung; none past the last number.
 fn marks_of(rows: &[Vec<bool>], number: usize) -> &[bool]
     ensures { result.now ≡ slice_index_or (map (λ v. v.items) rows.now) number [] }
 {
@@ -37,7 +37,7 @@ fn marks_of(rows: &[Vec<bool>], number: usize) -> &[bool]
     }
 }
 
-/// No mark for each of this many numbers.
+/// Marks for this many variables or outputs, none of them set.
 fn no_marks(alloc: Global, count: usize, rungs: usize) -> Result<Vec<Vec<bool>>, AllocError>
     ensures { IfOk result (λ v. map (λ x. x.items) v.items ≡ replicate count (replicate rungs false)) }
 {
@@ -48,6 +48,7 @@ fn no_marks(alloc: Global, count: usize, rungs: usize) -> Result<Vec<Vec<bool>>,
     Ok(rows)
 }
 
+/// Marks a rung as one that uses the variable or output of this row of marks.
 fn mark_one(marks: &mut [bool], rung: usize)
     ensures { marks.new ≡ slice_set marks.old rung true }
 {
@@ -56,7 +57,7 @@ fn mark_one(marks: &mut [bool], rung: usize)
     }
 }
 
-/// Marks a rung for a number; past the last one there is none.
+/// Marks a rung in the row of a variable or an output; past the last one nothing is marked.
 fn mark(rows: &mut [Vec<bool>], number: usize, rung: usize)
     ensures { map (λ v. v.items) rows.new ≡ slice_set (map (λ v. v.items) rows.old) number
         (slice_set (slice_index_or (map (λ v. v.items) rows.old) number []) rung true) }
@@ -67,7 +68,7 @@ fn mark(rows: &mut [Vec<bool>], number: usize, rung: usize)
 }
 
 impl Users {
-    /// The marks of a program.
+    /// The marks of a program: which rungs use each variable and each output.
     ///
     /// # Errors
     ///
@@ -86,7 +87,7 @@ impl Users {
         Ok(users)
     }
 
-    /// Marks a rung for what a contact reads.
+    /// Marks a rung as one that uses what a contact reads.
     fn mark_operand(&mut self, operand: Operand, rung: usize)
         ensures more { IsMore self.old self.new }
         ensures variables { (v : ℕ) → operand_uses_variable v operand ≡ true → marked self.new.variables v rung ≡ true }
@@ -98,7 +99,7 @@ impl Users {
         }
     }
 
-    /// Marks a rung for what one of its cells uses.
+    /// Marks a rung as one that uses the variable or output of one of its cells.
     fn mark_cell(&mut self, cell: Cell, rung: usize)
         ensures more { IsMore self.old self.new }
         ensures has { HasCell self.new rung cell }
@@ -115,7 +116,7 @@ impl Users {
         }
     }
 
-    /// Marks a rung for all that it uses.
+    /// Marks a rung as one that uses all that its cells use.
     fn mark_rung(&mut self, program: &Program, rung: usize)
         requires { rung < program.now.rungs }
         ensures more { IsMore self.old self.new }

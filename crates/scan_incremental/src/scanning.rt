@@ -97,8 +97,8 @@ fn evaluate(
     after
 }
 
-/// Evaluates a rung, where it isn't known to rest, and returns the rung after it.
-fn pass(
+/// Evaluates a rung unless it is known to rest, and returns the rung after it.
+fn scan_rung(
     scene: Scene<'_>,
     storage: &mut Storage,
     start: &mut Image<bool>,
@@ -125,7 +125,7 @@ fn pass(
     }
 }
 
-/// Goes from rung to rung, past those that a jump passes over.
+/// Goes from rung to rung, except those that a jump passes over.
 fn scan_rungs(
     program: &Program,
     now: u64,
@@ -147,7 +147,7 @@ fn scan_rungs(
     for rung in 0..program.rungs() {
         if resume <= rung {
             let scene = Scene { program, now, rung };
-            resume = pass(scene, storage, start, &mut links, users, next);
+            resume = scan_rung(scene, storage, start, &mut links, users, next);
         }
     }
 }
@@ -166,7 +166,7 @@ fn wake_changed(storage: &Storage, before: &[bool], users: &Users, next: &mut [O
     }
 }
 
-/// Gives the inputs.
+/// Gives the inputs their values, and wakes the rungs that use a variable that got another one.
 fn give(
     program: &Program,
     now: u64,
@@ -189,7 +189,7 @@ fn give(
     wake_changed(storage, &start.values, users, next);
 }
 
-/// Gives the inputs, and evaluates the rungs.
+/// Gives the inputs their values, and evaluates the rungs that aren't known to rest.
 fn scan_storage(
     program: &Program,
     now: u64,

@@ -17,7 +17,7 @@ fn is_marked(marks: &[bool], rung: usize) -> bool
     }
 }
 
-/// Wakes the rungs that are marked.
+/// Wakes the rungs that are marked: they are no longer known to rest.
 fn wake(marks: &[bool], next: &mut [Option<usize>])
     ensures { (j n : ℕ) → known_next next.new j ≡ Some n → (known_next next.old j ≡ Some n) × (slice_index_or marks.now j true ≡ false) }
 {
@@ -49,7 +49,7 @@ pub(crate) fn wake_output(users: &Users, inst: usize, next: &mut [Option<usize>]
     wake(users.of_output(inst), next);
 }
 
-/// The rung after one that is known to rest.
+/// The rung that comes after one that is known to rest; None where it isn't known to.
 pub(crate) fn known_next(next: &[Option<usize>], rung: usize) -> Option<usize>
     ensures { result ≡ known_next next.now rung }
 {
@@ -59,7 +59,7 @@ pub(crate) fn known_next(next: &[Option<usize>], rung: usize) -> Option<usize>
     }
 }
 
-/// A rung rests from now on.
+/// Notes that a rung rests from now on, and which rung comes after it.
 pub(crate) fn put_to_rest(next: &mut [Option<usize>], rung: usize, after: usize)
     ensures { next.new ≡ slice_set next.old rung (Some after) }
 {

@@ -1,11 +1,11 @@
 -- Along the actions of a rung the changes are those of all its places.
-use Rattle.std.proofs.Common.{◌≡◌, ℕ, ◌+◌, ◌<◌, ◌≤◌, false, List, [], ◌∷◌, ◌++◌, drop, length, get_or, zero, suc, refl, sym, ap, ap₂, ◌∙◌, arith, Some, None, inl, inr}
-use Rattle.std.proofs.lemmas.Bool.{cases_Bool}
+use Rattle.std.proofs.Common.{◌≡◌, ℕ, ◌+◌, ◌<◌, ◌≤◌, false, List, [], ◌∷◌, ◌++◌, drop, length, get_or, zero, suc, refl, sym, ap, ap₂, ◌∙◌, arith, Some, inl, inr}
+use Rattle.std.proofs.lemmas.Bool.{cases_Bool, cond-true, cond-false}
 use Rattle.std.proofs.lemmas.List.{drop_more, drop_all}
 use Rattle.std.proofs.lemmas.Option.{get_or_from_slice_get, slice_get_read}
 use Rattle.diagram_program.specs.declared.geometry.TheConstants.{PLACES}
 use Rattle.diagram_program.specs.declared.cell.Cell.{Cell}
-use Rattle.diagram_program.specs.declared.cell.Cell.TheVariants.{Empty, Wire, Contact, Coil, Block, Lower, Jump, Return}
+use Rattle.diagram_program.specs.declared.cell.Cell.TheVariants.{Contact, Coil, Block}
 use Rattle.diagram_program.specs.declared.gates.Action.{Action}
 use Rattle.diagram_program.specs.Program.{Drawing, cell_of}
 use Rattle.diagram_program.specs.Gates.{left_of, below_of, acts, action_at, actions_before, actions_of}
@@ -14,7 +14,6 @@ use Rattle.scan_cycle.specs.Cells.{Diagram, Frame}
 use Rattle.scan_cycle.specs.Rung.{second}
 use Rattle.scan_cycle.specs.Programs.{diagram_of}
 use Rattle.scan_cycle.specs.Gating.{among}
-use Rattle.scan_cycle.proofs.Acting.{cond_true, cond_false}
 use Rattle.scan_cycle.proofs.Feeders.{cell_is}
 use Rattle.scan_symbolic.specs.KnownScan.{Keeping, Known, link_in, frame_in, changed_in, changes_in, evaluated_in}
 use Rattle.scan_partial.specs.Evaluating.{changed_by, changes_by, AreLinksIn}
@@ -43,15 +42,10 @@ module _ {S B : Type 0} (o : Algebra S) (w : Keeping S B) (p : Drawing) (now j :
   changed c x y k = changed_in o w (diagram_of p) now start guard c x y k
 
   still : (c : Cell) (x y : S) (k : Known S B) → acts c ≡ false → changed c x y k ≡ k
-  still Empty x y k t = refl
-  still Wire x y k t = refl
-  still (Contact mode operand None) x y k t = refl
   still (Contact mode operand (Some memory)) x y k t = cc
   still (Coil mode var memory) x y k t = cc
   still (Block inst) x y k t = cc
-  still (Lower inst linked) x y k t = refl
-  still (Jump target) x y k t = refl
-  still Return x y k t = refl
+  still _ x y k t = refl
 
   changes_append : (R : List S) (xs ys : List Action) (k : Known S B)
       → changes_by o w (diagram_of p) now start guard R (xs ++ ys) k ≡ changes_by o w (diagram_of p) now start guard R ys (changes_by o w (diagram_of p) now start guard R xs k)
@@ -79,13 +73,13 @@ module _ {S B : Type 0} (o : Algebra S) (w : Keeping S B) (p : Drawing) (now j :
     changes_along zero lt k = refl
     changes_along (suc n) lt k = elim (cases_Bool (acts (cell_of p j n))) [
       | inl t ↦
-          ap (λ xs. changes_by o w (diagram_of p) now start guard R xs k) (cond_true (acts (cell_of p j n)) (actions_before p j n ++ action_at p j n ∷ []) _ t)
+          ap (λ xs. changes_by o w (diagram_of p) now start guard R xs k) (cond-true (acts (cell_of p j n)) (actions_before p j n ++ action_at p j n ∷ []) _ t)
           ∙ changes_append R (actions_before p j n) (action_at p j n ∷ []) k
           ∙ changes_one R (action_at p j n) _
           ∙ change_is n (omega arith) _
           ∙ ap (changed ((diagram_of p).cell j n) (links n) (second o (diagram_of p) j links n)) (changes_along n (omega arith) k)
       | inr t ↦
-          ap (λ xs. changes_by o w (diagram_of p) now start guard R xs k) (cond_false (acts (cell_of p j n)) (actions_before p j n ++ action_at p j n ∷ []) _ t)
+          ap (λ xs. changes_by o w (diagram_of p) now start guard R xs k) (cond-false (acts (cell_of p j n)) (actions_before p j n ++ action_at p j n ∷ []) _ t)
           ∙ changes_along n (omega arith) k
           ∙ sym (still ((diagram_of p).cell j n) (links n) (second o (diagram_of p) j links n) _ (ap acts (cell_is p j n (omega arith)) ∙ t))
     ]

@@ -1,6 +1,6 @@
 -- The gates of a rung find the left links of its cells over what is known, from the laws of the signal alone.
 use Rattle.std.proofs.Common.{◌≡◌, ℕ, ◌+◌, ◌*◌, ◌/◌, ◌%◌, ◌<◌, ◌≤◌, Bool, true, false, cond, List, [], ◌∷◌, ◌++◌, get_or, drop, length, zero, suc, nat_lt, refl, sym, ap, ap₂, subst, ◌∙◌, arith, inl, inr}
-use Rattle.std.proofs.lemmas.Bool.{cases_Bool}
+use Rattle.std.proofs.lemmas.Bool.{cases_Bool, cond-true, cond-false, or_parts}
 use Rattle.std.proofs.lemmas.List.{drop_more, drop_all}
 use Rattle.diagram_program.specs.declared.geometry.TheConstants.{ROWS, PLACES}
 use Rattle.diagram_program.specs.declared.mode.Mode.{Mode}
@@ -9,7 +9,7 @@ use Rattle.diagram_program.specs.declared.gates.TheConstants.{ON, OFF, LINKS}
 use Rattle.diagram_program.specs.declared.cell.Operand.{Operand}
 use Rattle.diagram_program.specs.declared.cell.Operand.TheVariants.{Var, Output}
 use Rattle.diagram_program.specs.declared.cell.Cell.{Cell}
-use Rattle.diagram_program.specs.declared.cell.Cell.TheVariants.{Empty, Wire, Contact, Coil, Block, Lower, Jump, Return}
+use Rattle.diagram_program.specs.declared.cell.Cell.TheVariants.{Contact}
 use Rattle.diagram_program.specs.declared.gates.Gate.{Gate}
 use Rattle.diagram_program.specs.declared.gates.Literal.TheVariants.{Is, Not, Other}
 use Rattle.diagram_program.specs.Program.{Drawing, cell_of, is_block}
@@ -21,7 +21,7 @@ use Rattle.scan_cycle.specs.Rung.{lower}
 use Rattle.scan_cycle.specs.Programs.{diagram_of}
 use Rattle.scan_cycle.specs.Gating.{join_where}
 use Rattle.scan_cycle.proofs.Links.{either_value}
-use Rattle.scan_cycle.proofs.Feeders.{Feeding, fed_more, fed_without, left_is, other_is, below_is, second_is, cond_true, cond_false, either_test, place_is, cell_is}
+use Rattle.scan_cycle.proofs.Feeders.{Feeding, fed_more, fed_without, left_is, other_is, below_is, second_is, place_is, cell_is}
 use Rattle.scan_symbolic.specs.KnownScan.{Keeping, Known, frame_in, circuit_in}
 use Rattle.scan_partial.specs.KeepsValues.{KeepsValues}
 use Rattle.scan_partial.specs.Evaluating.{AreSure, own_in, through_in, let_in, passed_in, ran_in, AreLinksIn}
@@ -92,14 +92,8 @@ module _ {S B : Type 0} (o : Algebra S) (V : S → Type 0) (l : LatticeLaws S V 
   contact_through Falling operand memory x y = refl
 
   cell_through : (c : Cell) (x y : S) → through_in o w (diagram_of p) now f k (literal_of c) c x y ≡ own_in o w (diagram_of p) now f k c x y
-  cell_through Empty x y = refl
-  cell_through Wire x y = refl
   cell_through (Contact mode operand memory) x y = contact_through mode operand memory x y
-  cell_through (Coil mode var memory) x y = refl
-  cell_through (Block inst) x y = refl
-  cell_through (Lower inst linked) x y = refl
-  cell_through (Jump target) x y = refl
-  cell_through Return x y = refl
+  cell_through _ x y = refl
 
   -- ---- links so far
   first : (e : ℕ) → e < ROWS → lk (e % ROWS) (e / ROWS) ≡ o.known true
@@ -129,7 +123,7 @@ module _ {S B : Type 0} (o : Algebra S) (V : S → Type 0) (l : LatticeLaws S V 
       (ap₂ o.join (gate_is e h R good) (other_is o V l p j lk right right_value first next e h R good))
 
   no_gate : (e : ℕ) → has_gate p j e ≡ false → (R : List S) → Good e R → Good (suc e) R
-  no_gate e none R good = fed_without o p j right e (either_test (is_block (cell_of p j e)) (feeds_on p j e) none).1 R good
+  no_gate e none R good = fed_without o p j right e (or_parts (is_block (cell_of p j e)) (feeds_on p j e) none).1 R good
 
   ran_append : (gs hs : List Gate) (R : List S) → ran_in o w (diagram_of p) now j f k (gs ++ hs) R ≡ ran_in o w (diagram_of p) now j f k hs (ran_in o w (diagram_of p) now j f k gs R)
   unfolding ran_in
@@ -143,9 +137,9 @@ module _ {S B : Type 0} (o : Algebra S) (V : S → Type 0) (l : LatticeLaws S V 
   all_good (suc n) h R long on off =
       let before = all_good n (omega arith) R long on off in
       elim (cases_Bool (has_gate p j n)) [
-        | inl b ↦ subst (λ (gs : List Gate). Good (suc n) (ran_in o w (diagram_of p) now j f k gs R)) (sym (cond_true (has_gate p j n) _ _ b))
+        | inl b ↦ subst (λ (gs : List Gate). Good (suc n) (ran_in o w (diagram_of p) now j f k gs R)) (sym (cond-true (has_gate p j n) _ _ b))
             (subst (λ (xs : List S). Good (suc n) xs) (sym (ran_append (gates_before p j n) (gate_at p j n ∷ []) R)) (one_gate n (omega arith) _ before))
-        | inr b ↦ subst (λ (gs : List Gate). Good (suc n) (ran_in o w (diagram_of p) now j f k gs R)) (sym (cond_false (has_gate p j n) _ _ b)) (no_gate n b _ before)
+        | inr b ↦ subst (λ (gs : List Gate). Good (suc n) (ran_in o w (diagram_of p) now j f k gs R)) (sym (cond-false (has_gate p j n) _ _ b)) (no_gate n b _ before)
       ]
 
   -- ---- all gates

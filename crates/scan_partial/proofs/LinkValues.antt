@@ -1,8 +1,8 @@
 -- What is known of a rung gives values of the signal, and the left links of a column by those of the column before.
-use Rattle.std.proofs.Common.{◌≡◌, ℕ, ◌+◌, ◌*◌, ◌/◌, ◌%◌, ◌<◌, true, false, List, [], ◌∷◌, Option, Some, None, map, get_or, zero, suc, nat_eq, ap, ◌∙◌, arith}
+use Rattle.std.proofs.Common.{◌≡◌, ℕ, ◌+◌, ◌*◌, ◌%◌, ◌<◌, true, false, List, [], ◌∷◌, Option, Some, None, map, get_or, zero, suc, nat_eq, ap, ◌∙◌}
 use Rattle.diagram_program.specs.declared.geometry.TheConstants.{ROWS}
 use Rattle.diagram_program.specs.declared.cell.Cell.{Cell}
-use Rattle.diagram_program.specs.declared.cell.Cell.TheVariants.{Empty, Wire, Contact, Coil, Block, Lower, Jump, Return}
+use Rattle.diagram_program.specs.declared.cell.Cell.TheVariants.{Block}
 use Rattle.diagram_program.specs.Program.{Drawing, memory_in}
 use Rattle.scan_signals.specs.Algebra.{Algebra, LatticeLaws}
 use Rattle.scan_cycle.specs.Routes.{Circuit, Route, rail, block_end, through, join_all, left_link, routes, route_value, ends_below}
@@ -12,7 +12,7 @@ use Rattle.scan_cycle.specs.Programs.{diagram_of}
 use Rattle.scan_cycle.specs.Gating.{join_where, AreValues}
 use Rattle.scan_cycle.proofs.Flow.{left_link-next}
 use Rattle.scan_cycle.proofs.Joins.{join_all-value}
-use Rattle.scan_cycle.proofs.Links.{either_value, closed-value}
+use Rattle.scan_cycle.proofs.Links.{either_value, closed-value, no_column}
 use Rattle.scan_symbolic.specs.KnownScan.{Keeping, Known, frame_in, circuit_in, link_in, q_in}
 use Rattle.scan_partial.specs.KeepsValues.{KeepsValues}
 use Rattle.scan_partial.specs.Evaluating.{AreSure, own_in}
@@ -38,9 +38,6 @@ module _ {S : Type 0} (o : Algebra S) (V : S → Type 0) (l : LatticeLaws S V o)
   left_is_value row column = join_all-value o V l _ (route_is _ (ends_are column)) (routes g.feeds g.is_block row column)
 
 -- ---- of a rung over what is known
-no_column : (e : ℕ) → e < ROWS → e / ROWS ≡ 0
-no_column e h = omega arith
-
 module _ {S B : Type 0} (o : Algebra S) (V : S → Type 0) (l : LatticeLaws S V o) (w : Keeping S B) (K : B → Type 0) (keeps : KeepsValues V K w) (p : Drawing)
     (now j : ℕ) (k : Known S B) (sure : AreSure o V K w k) where
   ends_values : (bs : List B) (d : B) → ((i : ℕ) → K (get_or bs i d)) → (i : ℕ) → V (get_or (map w.q bs) i (o.known false))
@@ -59,14 +56,8 @@ module _ {S B : Type 0} (o : Algebra S) (V : S → Type 0) (l : LatticeLaws S V 
   closed_is c = closed-value o V l (frame_in w k) frame_values _ (memory_value (memory_in c)) c
 
   pub q_is : (c : Cell) (x y : S) → V x → V y → V (q_in o w (diagram_of p) now k c x y)
-  q_is Empty x y vx vy = l.known_value false
-  q_is Wire x y vx vy = l.known_value false
-  q_is (Contact mode operand memory) x y vx vy = l.known_value false
-  q_is (Coil mode var memory) x y vx vy = l.known_value false
   q_is (Block inst) x y vx vy = keeps.q _ (keeps.step ((diagram_of p).kind inst) ((diagram_of p).preset inst) _ x y now (sure.blocks inst) vx vy)
-  q_is (Lower inst linked) x y vx vy = l.known_value false
-  q_is (Jump target) x y vx vy = l.known_value false
-  q_is Return x y vx vy = l.known_value false
+  q_is _ x y vx vy = l.known_value false
 
   through_block : (row column : ℕ) (x y : S) → V x → V y
       → V (q_in o w (diagram_of p) now k ((diagram_of p).cell j (ROWS * column + row)) x (lower o ((diagram_of p).linked j (ROWS * column + row)) y))

@@ -3,7 +3,7 @@ use Rattle.std.proofs.Common.{◌≡◌, ℕ, ◌+◌, ◌<◌, Bool, false, con
 use Rattle.std.proofs.lemmas.List.{get_or-take, length-map, length-set, take_more_set}
 use Rattle.diagram_program.specs.declared.geometry.TheConstants.{PLACES}
 use Rattle.diagram_program.specs.declared.cell.Cell.{Cell}
-use Rattle.diagram_program.specs.declared.cell.Cell.TheVariants.{Empty, Wire, Contact, Coil, Block, Lower, Jump, Return}
+use Rattle.diagram_program.specs.declared.cell.Cell.TheVariants.{Contact, Coil, Block}
 use Rattle.diagram_declarations.specs.Decls.{is_input}
 use Rattle.diagram_program.specs.Program.{Drawing}
 use Rattle.scan_signals.specs.Algebra.{Algebra}
@@ -26,14 +26,10 @@ long_then a b = record { values = a.values ∙ b.values; memories = a.memories �
 
 module _ {S B : Type 0} (o : Algebra S) (w : Keeping S B) (d : Diagram) (now : ℕ) where
   one_long : (start : Frame S) (guard : S) (c : Cell) (x y : S) (k : Known S B) → AreAsLong (changed_in o w d now start guard c x y k) k
-  one_long start guard Empty x y k = as_long k
-  one_long start guard Wire x y k = as_long k
   one_long start guard (Contact mode operand memory) x y k = record { values = refl; memories = size-put_in k.memories memory _; blocks = refl }
   one_long start guard (Coil mode var memory) x y k = record { values = length-set k.values var _; memories = size-put_in k.memories memory _; blocks = refl }
   one_long start guard (Block inst) x y k = record { values = refl; memories = refl; blocks = length-set k.blocks inst _ }
-  one_long start guard (Lower inst linked) x y k = as_long k
-  one_long start guard (Jump target) x y k = as_long k
-  one_long start guard Return x y k = as_long k
+  one_long start guard _ x y k = as_long k
 
   changes_long : (j : ℕ) (start : Frame S) (guard : S) (links : ℕ → S) (n : ℕ) (k : Known S B) → AreAsLong (changes_in o w d now j start guard links n k) k
   unfolding changes_in

@@ -19,7 +19,7 @@ use scan_cycle::image::Image;
 use scan_cycle::scene::{Scene, instance};
 use scan_signals::Signal;
 
-/// A coil writes its variable, and remembers its link.
+/// Writes what a coil writes, and its memory: each is the choice, by the guard of its rung, between the new and the old one.
 fn write<S: Signal, B: Keep<S>>(
     guard: S,
     mode: CoilMode,
@@ -37,7 +37,7 @@ fn write<S: Signal, B: Keep<S>>(
     known.remember(memory, S::choose(guard, link, before));
 }
 
-/// A block makes its step.
+/// Makes the step of a block: what it then stores is the choice, by the guard of its rung, between the new and the old one.
 fn step<S: Signal, B: Keep<S>>(
     scene: Scene<'_>,
     guard: S,
@@ -56,7 +56,7 @@ fn step<S: Signal, B: Keep<S>>(
     known.keep(inst, B::choose(guard, new, old));
 }
 
-/// What one action changes; `start` is what contacts see, from the rung's start on.
+/// Makes what one action changes; `start` is what contacts see, from the rung's start on.
 fn change<S: Signal, B: Keep<S>>(
     scene: Scene<'_>,
     guard: S,
@@ -95,7 +95,7 @@ fn change<S: Signal, B: Keep<S>>(
     }
 }
 
-/// The effects of a rung, by column, then row.
+/// Makes the changes of a rung's actions, by column, then row.
 #[tactic(auto, using(crate::proofs::Acting::changes_step))]
 pub(crate) fn changes<S: Signal, B: Keep<S>>(
     scene: Scene<'_>,

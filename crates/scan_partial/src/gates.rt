@@ -68,8 +68,8 @@ fn through_gate<S: Signal, B: Keep<S>>(
     }
 }
 
-/// The links after one gate.
-fn pass<S: Signal, B: Keep<S>>(
+/// Finds the link that one gate gives, and keeps it with the links.
+fn pass_gate<S: Signal, B: Keep<S>>(
     scene: Scene<'_>,
     known: &Knowledge<S, B>,
     seen: &Image<S>,
@@ -87,9 +87,9 @@ fn pass<S: Signal, B: Keep<S>>(
     links[gate.place as usize] = through.or(other);
 }
 
-/// The links after the gates of a rung.
+/// Finds the links that the gates of a rung give, one gate after the other.
 #[tactic(auto, using(crate::proofs::GateLaws::run_step))]
-fn run<S: Signal, B: Keep<S>>(
+fn pass_gates<S: Signal, B: Keep<S>>(
     scene: Scene<'_>,
     known: &Knowledge<S, B>,
     seen: &Image<S>,
@@ -103,7 +103,7 @@ fn run<S: Signal, B: Keep<S>>(
         seen.now known.now (gates_of scene.entry.program.now scene.entry.rung) links.old }
 {
     for gate in scene.program.gates(scene.rung) {
-        pass(scene, known, seen, gate, links);
+        pass_gate(scene, known, seen, gate, links);
     }
 }
 
@@ -123,5 +123,5 @@ pub(crate) fn find_links<S: Signal, B: Keep<S>>(
 {
     known.checked();
     set_rails(links);
-    run(scene, known, seen, links);
+    pass_gates(scene, known, seen, links);
 }

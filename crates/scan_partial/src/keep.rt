@@ -15,7 +15,7 @@ pub trait Keep<S: Signal>: Copy {
     /// What a program keeps. The type may hold more.
     ghost kept: { Self → Type 0 };
 
-    /// All that is stored.
+    /// What is kept of an instance if all that is stored is known.
     fn stored(stored: Stored) -> Self
         ensures { result ≡ keeping.stored stored };
 
@@ -43,18 +43,22 @@ impl Keep<bool> for Stored {
 
     ghost keeps = { plainly_keeps };
 
+    /// The stored block itself.
     fn stored(stored: Stored) -> Stored {
         stored
     }
 
+    /// The Q that is stored.
     fn q(self) -> bool {
         self.q()
     }
 
+    /// The step of the standard block.
     fn step(self, kind: BlockKind, preset: u32, first: bool, second: bool, now: u64) -> Stored {
         block::step(kind, preset, self, first, second, now)
     }
 
+    /// The stored block of the side that the condition takes.
     fn choose(condition: bool, on: Stored, off: Stored) -> Stored {
         if condition { on } else { off }
     }

@@ -134,7 +134,7 @@ impl<S: Signal, B: Keep<S>> Knowledge<S, B> {
         give(decls, inputs, &mut self.values);
     }
 
-    /// Writes a variable; past the last one there is none.
+    /// Writes what is known of a variable; past the last one nothing is written.
     pub fn put_value(&mut self, var: usize, value: S)
         ensures { self.new ≡ record self.old { values = slice_set self.old.values var value } }
     {
@@ -144,7 +144,7 @@ impl<S: Signal, B: Keep<S>> Knowledge<S, B> {
         }
     }
 
-    /// Writes a memory, where there is one.
+    /// Writes what is known of a memory, where the cell has one.
     pub(crate) fn remember(&mut self, number: Option<usize>, value: S)
         ensures { self.new ≡ record self.old { memories = put_in self.old.memories number value } }
     {
@@ -153,7 +153,7 @@ impl<S: Signal, B: Keep<S>> Knowledge<S, B> {
         }
     }
 
-    /// Writes a memory; past the last one there is none.
+    /// Writes what is known of a memory; past the last one nothing is written.
     pub fn put_memory(&mut self, number: usize, value: S)
         ensures { self.new ≡ record self.old { memories = slice_set self.old.memories number value } }
     {
@@ -163,7 +163,7 @@ impl<S: Signal, B: Keep<S>> Knowledge<S, B> {
         }
     }
 
-    /// Writes what is kept of an instance; past the last one there is none.
+    /// Writes what is known of an instance; past the last one nothing is written.
     pub fn keep(&mut self, inst: usize, kept: B)
         requires { B.kept kept }
         ensures { self.new ≡ record self.old { blocks = slice_set self.old.blocks inst kept } }

@@ -32,7 +32,7 @@ impl<S> Model for Room<S> {
 }
 
 impl<S: Operations> Room<S> {
-    /// Buffers for scans of the program.
+    /// The buffers that scans of the program need.
     ///
     /// # Errors
     ///

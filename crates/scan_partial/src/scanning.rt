@@ -1,4 +1,4 @@
-//! One scan over what is known.
+//! One scan over what is known of a state, each rung under its guard.
 
 ghost use Rattle.std.specs.Prelude.{◌≡◌, ◌<◌, true, false, length, All};
 ghost use Rattle.diagram_program.specs.declared.gates.TheConstants.{LINKS};

@@ -46,14 +46,12 @@ tof_more : (preset : ℕ) (b a second was r : Bool) (m before now : ℕ) → bef
     step Tof preset (tof_is preset b was m before) a second now ≡ tof_is preset a (b || was) (cond b now m) now
 unfolding step
 tof_more preset true true second was r m before now h e = refl
-tof_more preset false true second was r m before now h e = refl
-tof_more preset true false second was r m before now h e = refl
 tof_more preset false false second true true m before now h e =
     ap (λ b. step Tof preset (Timer false b (cond b m 0) b) false second now) e
 tof_more preset false false second true false m before now h e =
     ap (λ b. step Tof preset (Timer false b (cond b m 0) b) false second now) e
     ∙ sym (ap (λ b. Timer false b (cond b m 0) b) (still_out preset m before now h e))
-tof_more preset false false second false r m before now h e = refl
+tof_more preset _ _ second _ r m before now h e = refl
 
 tof_after : (preset : ℕ) (x : StepInput) (older : List StepInput) → NeverFalls (x ∷ older) → after Tof preset (x ∷ older) ≡ tof_is preset x.on (was_on older) (since false x.now older) x.now
 unfolding after

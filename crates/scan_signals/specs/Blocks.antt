@@ -2,7 +2,7 @@
 -- moments are whole milliseconds.
 -- What the standard's timing diagrams leave open is the profile's choice: a timer with PT 0 expires immediately, a rise during a pulse
 -- does nothing, a TP with PT 0 never begins, a reset or load goes before a rise, and CV stops at the ends of its range.
-use Rattle.std.specs.Prelude.{ℕ, ◌-◌, Bool, true, false, not, if◌then◌else◌, ◌&&◌, ◌||◌, nat_lt, nat_le, pos, negsuc, ◌+ℤ◌, ◌-ℤ◌, int_lt, int_le}
+use Rattle.std.specs.Prelude.{ℕ, ◌-◌, min, Bool, true, false, not, if◌then◌else◌, ◌&&◌, ◌||◌, nat_lt, nat_le, pos, negsuc, ◌+ℤ◌, ◌-ℤ◌, int_lt, int_le}
 use Rattle.diagram_declarations.specs.declared.kind.BlockKind.{BlockKind}
 use Rattle.diagram_declarations.specs.declared.kind.BlockKind.TheVariants.{Ton, Tof, Tp, Ctu, Ctd, Sr, Rs}
 use Rattle.scan_signals.specs.declared.block.Stored.{Stored}
@@ -12,6 +12,11 @@ use Rattle.scan_signals.specs.declared.block.Stored.TheVariants.{Timer, Counter,
 -- a counter the last count input, CV and Q; a bistable Q1.
 abbrev pub q_of : Stored → Bool
 q_of stored = elim stored [ Timer last running start q ↦ q | Counter last cv q ↦ q | Bistable q ↦ q ]
+
+-- The elapsed time of a timer at a moment (ET): how long it has run, at most PT; 0 where it doesn't run.
+abbrev pub elapsed : ℕ → ℕ → Stored → ℕ
+elapsed preset now (Timer last true start q) = min (now - start) preset
+elapsed preset now other = 0
 
 -- What an instance stores before its first step.
 abbrev pub new_block : BlockKind → Stored

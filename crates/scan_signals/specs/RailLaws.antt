@@ -1,7 +1,7 @@
 -- Private to the signal of 64 lanes: its laws, and that each lane goes as three values go.
 use Rattle.std.specs.Prelude.{◌≡◌, ℕ, ◌+◌, ◌-◌, ◌%◌, ◌^◌, ◌<◌, ◌≤◌, Bool, true, false, not, ◌&&◌, ◌||◌, if◌then◌else◌, max, min, refl, bit_and, bit_or}
 use Rattle.std.specs.Int.{bit_at}
-use Rattle.std.proofs.Common.{arith, sym, ap, ap₂, ◌∙◌, lit<, zero, suc, ◌⊎◌, inl, inr}
+use Rattle.std.proofs.Common.{arith, ap, ap₂, ◌∙◌, lit<, zero, suc, ◌⊎◌, inl, inr}
 use Rattle.std.proofs.lemmas.Nat.{or_comm, and_comm, or_lt, and_le_l, and_le_r}
 use Rattle.std.proofs.lemmas.Nat.Bits.{bit_at_and, bit_at_or, same_from_bits, same_from_bits_below, bit_at-lt, bit_at_ones, bit_at-zero}
 use Rattle.scan_signals.specs.Algebra.{LatticeLaws, AllowsLaws}
@@ -227,25 +227,15 @@ lane_known p h false = (bit_at-zero p, on_bit p h)
 
 join_digits : (u v : Tri) → (max (on_digit u) (on_digit v) ≡ on_digit (three_join u v)) × (min (off_digit u) (off_digit v) ≡ off_digit (three_join u v))
 join_digits On On = (refl, refl)
-join_digits On Off = (refl, refl)
-join_digits On Unsure = (refl, refl)
 join_digits Off On = (refl, refl)
-join_digits Off Off = (refl, refl)
-join_digits Off Unsure = (refl, refl)
 join_digits Unsure On = (refl, refl)
-join_digits Unsure Off = (refl, refl)
-join_digits Unsure Unsure = (refl, refl)
+join_digits _ _ = (refl, refl)
 
 meet_digits : (u v : Tri) → (min (on_digit u) (on_digit v) ≡ on_digit (three_meet u v)) × (max (off_digit u) (off_digit v) ≡ off_digit (three_meet u v))
 meet_digits On On = (refl, refl)
-meet_digits On Off = (refl, refl)
-meet_digits On Unsure = (refl, refl)
 meet_digits Off On = (refl, refl)
-meet_digits Off Off = (refl, refl)
-meet_digits Off Unsure = (refl, refl)
 meet_digits Unsure On = (refl, refl)
-meet_digits Unsure Off = (refl, refl)
-meet_digits Unsure Unsure = (refl, refl)
+meet_digits _ _ = (refl, refl)
 
 inverse_digits : (u : Tri) → (off_digit u ≡ on_digit (three_inverse u)) × (on_digit u ≡ off_digit (three_inverse u))
 inverse_digits On = (refl, refl)
@@ -259,32 +249,15 @@ pick c d x y = max (max (min c x) (min d y)) (min x y)
 choice_digits : (w u v : Tri) → (pick (on_digit w) (off_digit w) (on_digit u) (on_digit v) ≡ on_digit (three_choice w u v))
     × (pick (on_digit w) (off_digit w) (off_digit u) (off_digit v) ≡ off_digit (three_choice w u v))
 choice_digits On On On = (refl, refl)
-choice_digits On On Off = (refl, refl)
-choice_digits On On Unsure = (refl, refl)
 choice_digits On Off On = (refl, refl)
-choice_digits On Off Off = (refl, refl)
-choice_digits On Off Unsure = (refl, refl)
 choice_digits On Unsure On = (refl, refl)
-choice_digits On Unsure Off = (refl, refl)
-choice_digits On Unsure Unsure = (refl, refl)
 choice_digits Off On On = (refl, refl)
-choice_digits Off On Off = (refl, refl)
-choice_digits Off On Unsure = (refl, refl)
 choice_digits Off Off On = (refl, refl)
-choice_digits Off Off Off = (refl, refl)
-choice_digits Off Off Unsure = (refl, refl)
 choice_digits Off Unsure On = (refl, refl)
-choice_digits Off Unsure Off = (refl, refl)
-choice_digits Off Unsure Unsure = (refl, refl)
 choice_digits Unsure On On = (refl, refl)
-choice_digits Unsure On Off = (refl, refl)
-choice_digits Unsure On Unsure = (refl, refl)
 choice_digits Unsure Off On = (refl, refl)
-choice_digits Unsure Off Off = (refl, refl)
-choice_digits Unsure Off Unsure = (refl, refl)
 choice_digits Unsure Unsure On = (refl, refl)
-choice_digits Unsure Unsure Off = (refl, refl)
-choice_digits Unsure Unsure Unsure = (refl, refl)
+choice_digits _ _ _ = (refl, refl)
 
 same_pick : (c d x y e f u v : ℕ) → c ≡ e → d ≡ f → x ≡ u → y ≡ v → pick c d x y ≡ pick e f u v
 same_pick c d x y e f u v g h i j = ap₂ (λ a b. max a b) (ap₂ (λ a b. max a b) (ap₂ (λ a b. min a b) g i) (ap₂ (λ a b. min a b) h j)) (ap₂ (λ a b. min a b) i j)

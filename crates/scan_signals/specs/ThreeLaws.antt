@@ -10,25 +10,15 @@ use Rattle.scan_signals.specs.declared.tri.Tri.TheVariants.{Off, On, Unsure}
 -- a law of finitely many values is a test that computes
 abbrev same : Tri → Tri → Bool
 same On On = true
-same On Off = false
-same On Unsure = false
-same Off On = false
 same Off Off = true
-same Off Unsure = false
-same Unsure On = false
-same Unsure Off = false
 same Unsure Unsure = true
+same _ _ = false
 
 same-true : (x y : Tri) → same x y ≡ true → x ≡ y
 same-true On On h = refl
-same-true On Off h = cc
-same-true On Unsure h = cc
-same-true Off On h = cc
 same-true Off Off h = refl
-same-true Off Unsure h = cc
-same-true Unsure On h = cc
-same-true Unsure Off h = cc
 same-true Unsure Unsure h = refl
+same-true _ _ h = cc
 
 abbrev each : (Tri → Bool) → Bool
 each f = f On && (f Off && f Unsure)
@@ -75,22 +65,16 @@ three_lattice = record {
 }
 
 join_allowed : (x y : Tri) (p : ℕ) (a b : Bool) → three_allows x p a → three_allows y p b → three_allows (three_join x y) p (a || b)
-join_allowed On y p a b h k = grind arith
-join_allowed Off On p a b h k = grind arith
-join_allowed Off Off p a b h k = grind arith
 join_allowed Off Unsure p a b h k = tt
-join_allowed Unsure On p a b h k = grind arith
 join_allowed Unsure Off p a b h k = tt
 join_allowed Unsure Unsure p a b h k = tt
+join_allowed _ _ p a b h k = grind arith
 
 meet_allowed : (x y : Tri) (p : ℕ) (a b : Bool) → three_allows x p a → three_allows y p b → three_allows (three_meet x y) p (a && b)
-meet_allowed Off y p a b h k = grind arith
-meet_allowed On On p a b h k = grind arith
-meet_allowed On Off p a b h k = grind arith
 meet_allowed On Unsure p a b h k = tt
-meet_allowed Unsure Off p a b h k = grind arith
 meet_allowed Unsure On p a b h k = tt
 meet_allowed Unsure Unsure p a b h k = tt
+meet_allowed _ _ p a b h k = grind arith
 
 inverse_allowed : (x : Tri) (p : ℕ) (a : Bool) → three_allows x p a → three_allows (three_inverse x) p (not a)
 inverse_allowed On p a h = grind arith
@@ -99,14 +83,9 @@ inverse_allowed Unsure p a h = tt
 
 agree_allowed : (y z : Tri) (p : ℕ) (a b c : Bool) → three_allows y p b → three_allows z p c → three_allows (three_choice Unsure y z) p (if a then b else c)
 agree_allowed On On p a b c h k = grind arith
-agree_allowed On Off p a b c h k = tt
-agree_allowed On Unsure p a b c h k = tt
-agree_allowed Off On p a b c h k = tt
 agree_allowed Off Off p a b c h k = grind arith
-agree_allowed Off Unsure p a b c h k = tt
 agree_allowed Unsure On p a b c h k = tt
-agree_allowed Unsure Off p a b c h k = tt
-agree_allowed Unsure Unsure p a b c h k = tt
+agree_allowed _ _ p a b c h k = tt
 
 choice_allowed : (x y z : Tri) (p : ℕ) (a b c : Bool) → three_allows x p a → three_allows y p b → three_allows z p c → three_allows (three_choice x y z) p (if a then b else c)
 choice_allowed On y z p a b c g h k = rw g h

@@ -5,7 +5,7 @@ ghost use Rattle.diagram_declarations.specs.declared.kind.BlockKind.TheVariants 
 ghost use Rattle.diagram_declarations.specs.Kind.{largest_preset, traits_of};
 ghost use Rattle.diagram_declarations.specs.declared.limits.TheConstants.{LARGEST_COUNT};
 ghost use Rattle.scan_signals.specs.declared.block.Stored.TheVariants.{Timer, Counter, Bistable};
-ghost use Rattle.scan_signals.specs.Blocks.{step, q_of, new_block};
+ghost use Rattle.scan_signals.specs.Blocks.{elapsed, step, q_of, new_block};
 
 use diagram_declarations::BlockKind::{self, Ctd, Ctu, Rs, Sr, Tof, Ton, Tp};
 
@@ -52,7 +52,7 @@ impl Stored {
         }
     }
 
-    /// Q, of a bistable Q1.
+    /// The output: Q, or Q1 of a bistable.
     pub fn q(self) -> bool
         ensures { result ≡ q_of self }
     {
@@ -60,8 +60,25 @@ impl Stored {
             Stored::Timer { q, .. } | Stored::Counter { q, .. } | Stored::Bistable { q } => q,
         }
     }
+
+    /// The elapsed time of a timer at a moment (ET): how long it has run, at most its preset; 0 where it doesn't run.
+    pub fn elapsed(self, preset: u32, now: u64) -> u64
+        ensures { result ≡ elapsed preset now self }
+    {
+        match self {
+            Stored::Timer {
+                running: true,
+                start,
+                ..
+            } => now.saturating_sub(start).min(preset as u64),
+            Stored::Timer { running: false, .. }
+            | Stored::Counter { .. }
+            | Stored::Bistable { .. } => 0,
+        }
+    }
 }
 
+/// One step of an on-delay: Q is ON once the input has been ON for the preset, in ms.
 #[tactic(auto, unfolding(crate::specs::Blocks::step))]
 fn ton(preset: u32, running: bool, start: u64, on: bool, now: u64) -> Stored
     ensures { (last q second : Bool) → result ≡ step kind.Ton preset (Timer last running start q) on second now }
@@ -84,6 +101,7 @@ fn ton(preset: u32, running: bool, start: u64, on: bool, now: u64) -> Stored
     }
 }
 
+/// One step of an off-delay: Q stays ON for the preset, in ms, after the input has become OFF.
 #[tactic(auto, unfolding(crate::specs::Blocks::step))]
 fn tof(preset: u32, last: bool, running: bool, start: u64, on: bool, now: u64) -> Stored
     ensures { (q second : Bool) → result ≡ step kind.Tof preset (Timer last running start q) on second now }
@@ -106,6 +124,7 @@ fn tof(preset: u32, last: bool, running: bool, start: u64, on: bool, now: u64) -
     }
 }
 
+/// One step of a pulse: a rising edge of the input turns Q ON for the preset, in ms, and no edge starts it anew meanwhile.
 #[tactic(auto, unfolding(crate::specs::Blocks::step))]
 fn tp(preset: u32, last: bool, running: bool, start: u64, on: bool, now: u64) -> Stored
     ensures { (q second : Bool) → result ≡ step kind.Tp preset (Timer last running start q) on second now }
@@ -126,7 +145,7 @@ fn tp(preset: u32, last: bool, running: bool, start: u64, on: bool, now: u64) ->
     }
 }
 
-/// A TP that runs.
+/// What a pulse stores that runs since `start`: its output is ON.
 fn pulse(on: bool, start: u64) -> Stored
     ensures { result ≡ Timer on true start true }
 {
@@ -138,6 +157,7 @@ fn pulse(on: bool, start: u64) -> Stored
     }
 }
 
+/// One step of an up-counter: it counts rising edges up to the largest 16-bit value, and Q is ON from the preset on.
 #[tactic(auto, unfolding(crate::specs::Blocks::step))]
 fn ctu(preset: u32, last: bool, cv: i16, on: bool, reset: bool) -> Stored
     ensures { (q : Bool) (now : ℕ) → result ≡ step kind.Ctu preset (Counter last cv q) on reset now }
@@ -156,6 +176,7 @@ fn ctu(preset: u32, last: bool, cv: i16, on: bool, reset: bool) -> Stored
     }
 }
 
+/// One step of a down-counter: it counts rising edges down from the preset, which `load` gives it, and Q is ON from 0 down.
 #[tactic(auto, unfolding(crate::specs::Blocks::step))]
 fn ctd(preset: u32, last: bool, cv: i16, on: bool, load: bool) -> Stored
     requires { preset ≤ LARGEST_COUNT }
@@ -175,6 +196,7 @@ fn ctd(preset: u32, last: bool, cv: i16, on: bool, load: bool) -> Stored
     }
 }
 
+/// One step of a bistable whose set input is the stronger one.
 #[tactic(auto, unfolding(crate::specs::Blocks::step))]
 fn sr(q: bool, set: bool, reset: bool) -> Stored
     ensures { (preset now : ℕ) → result ≡ step kind.Sr preset (Bistable q) set reset now }
@@ -184,6 +206,7 @@ fn sr(q: bool, set: bool, reset: bool) -> Stored
     }
 }
 
+/// One step of a bistable whose reset input is the stronger one.
 #[tactic(auto, unfolding(crate::specs::Blocks::step))]
 fn rs(q: bool, set: bool, reset: bool) -> Stored
     ensures { (preset now : ℕ) → result ≡ step kind.Rs preset (Bistable q) set reset now }

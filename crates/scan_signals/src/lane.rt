@@ -4,7 +4,7 @@ ghost use Rattle.std.specs.Prelude.{◌≡◌};
 
 use crate::relation::Relation;
 
-/// A lane of the signal `Left`, in which a value of the signal `Right` stands. The operations go on each lane alone.
+/// A lane of the signal `Left`, which holds a value of the signal `Right`. The operations go on each lane alone.
 pub trait Lane: Relation {
     /// The value in the lane.
     fn read(self, wide: Self::Left) -> Self::Right

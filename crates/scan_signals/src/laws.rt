@@ -2,7 +2,7 @@
 
 ghost use Rattle.scan_signals.specs.Histories.{TonHistory, TofHistory, TpHistory, CtuHistory, CtdHistory, SrHistory, RsHistory};
 
-/// The output of a block after any list of steps from a fresh one.
+/// What the output of a block is after any list of steps from a fresh one, in the terms of IEC 61131-3.
 pub fn histories()
     ensures ton { TonHistory }
     ensures tof { TofHistory }

@@ -1,6 +1,6 @@
 //! What is known of a truth value in two scans at once.
 
-ghost use Rattle.std.specs.Prelude.{◌≡◌};
+ghost use Rattle.std.specs.Prelude.{◌≡◌, ◌↔◌, IsTrue};
 ghost use Rattle.scan_signals.specs.Likenesses.{AnyLikeness, like_either, likenesses};
 ghost use Rattle.scan_signals.specs.LikenessLaws.{like_choice_known};
 
@@ -22,6 +22,28 @@ pub enum Likeness {
     Open,
 }
 
+impl Likeness {
+    /// Whether it is the same in both scans, OFF or ON.
+    pub fn is_alike(self) -> bool
+        ensures { IsTrue result ↔ (self ≡ Likeness.Alike) }
+    {
+        match self {
+            Likeness::Alike => true,
+            Likeness::Off | Likeness::On | Likeness::Open => false,
+        }
+    }
+
+    /// Whether it may be anything in either scan.
+    pub fn is_open(self) -> bool
+        ensures { IsTrue result ↔ (self ≡ Likeness.Open) }
+    {
+        match self {
+            Likeness::Open => true,
+            Likeness::Off | Likeness::On | Likeness::Alike => false,
+        }
+    }
+}
+
 /// What is known where either may come out, and the same one in both scans.
 fn either(one: Likeness, other: Likeness) -> Likeness
     ensures { result ≡ like_either one other }
@@ -41,10 +63,12 @@ impl Operations for Likeness {
 
     ghost choice_known = { like_choice_known };
 
+    /// The same truth value in both scans.
     fn known(b: bool) -> Likeness {
         if b { Likeness::On } else { Likeness::Off }
     }
 
+    /// The OR, scan by scan. Two that are the same in both scans have the same OR; one of them that is open may differ.
     fn or(self, other: Likeness) -> Likeness {
         match (self, other) {
             (Likeness::On, _) | (_, Likeness::On) => Likeness::On,
@@ -55,6 +79,7 @@ impl Operations for Likeness {
         }
     }
 
+    /// The AND, scan by scan.
     fn and(self, other: Likeness) -> Likeness {
         match (self, other) {
             (Likeness::Off, _) | (_, Likeness::Off) => Likeness::Off,
@@ -65,6 +90,7 @@ impl Operations for Likeness {
         }
     }
 
+    /// What is known of the inverse: the same in both scans stays so.
     fn not(self) -> Likeness {
         match self {
             Likeness::Off => Likeness::On,
@@ -73,6 +99,7 @@ impl Operations for Likeness {
         }
     }
 
+    /// The choice, scan by scan: a condition that is the same in both scans takes the same side in both.
     fn choose(condition: Likeness, on: Likeness, off: Likeness) -> Likeness {
         match condition {
             Likeness::On => on,
@@ -86,6 +113,7 @@ impl Operations for Likeness {
         }
     }
 
+    /// Each of the four is a value.
     fn is_value(self) -> bool {
         true
     }

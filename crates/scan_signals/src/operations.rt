@@ -20,12 +20,15 @@ pub trait Operations: Copy {
     fn known(b: bool) -> Self
         ensures { result ≡ algebra.known b };
 
+    /// What two routes of power give together: ON where either is.
     fn or(self, other: Self) -> Self
         ensures { result ≡ algebra.join self other };
 
+    /// What two contacts in a row let through: ON where both do.
     fn and(self, other: Self) -> Self
         ensures { result ≡ algebra.meet self other };
 
+    /// The inverse, as a negated contact lets it through.
     fn not(self) -> Self
         ensures { result ≡ algebra.inverse self };
 

@@ -39,6 +39,7 @@ impl Operations for Rails {
 
     ghost choice_known = { rails_choice_known };
 
+    /// The same known value in all lanes.
     fn known(b: bool) -> Rails {
         Rails {
             on: if b { u64::MAX } else { 0 },
@@ -46,6 +47,7 @@ impl Operations for Rails {
         }
     }
 
+    /// The OR in each lane: known OFF where both are.
     fn or(self, other: Rails) -> Rails {
         Rails {
             on: self.on | other.on,
@@ -53,6 +55,7 @@ impl Operations for Rails {
         }
     }
 
+    /// The AND in each lane: known ON where both are.
     fn and(self, other: Rails) -> Rails {
         Rails {
             on: self.on & other.on,
@@ -60,6 +63,7 @@ impl Operations for Rails {
         }
     }
 
+    /// The inverse in each lane: ON and OFF change places, and what is unsure stays so.
     fn not(self) -> Rails {
         Rails {
             on: self.off,
@@ -67,6 +71,7 @@ impl Operations for Rails {
         }
     }
 
+    /// The choice in each lane: where the condition is unsure, what both sides agree on.
     fn choose(condition: Rails, on: Rails, off: Rails) -> Rails {
         Rails {
             on: (condition.on & on.on) | (condition.off & off.on) | (on.on & off.on),
@@ -74,6 +79,7 @@ impl Operations for Rails {
         }
     }
 
+    /// Whatever `Rails` holds is a value, by its invariant.
     fn is_value(self) -> bool {
         let _rails = self.on;
         true
@@ -111,7 +117,7 @@ fn open_lanes(t: u32) -> (u64, u64)
 }
 
 impl Rails {
-    /// The lanes of an open bit.
+    /// The lanes of an open bit of weight 2 ^ `shift`, where each lane leaves the last `unit` bits unsure.
     pub fn opened(unit: u32, shift: u32) -> Rails
         ensures { result ≡ rails_opened unit shift }
     {
@@ -155,6 +161,7 @@ impl Relation for RailLane {
 }
 
 impl Lane for RailLane {
+    /// The value of three in this lane.
     fn read(self, wide: Rails) -> Tri {
         wide.lane((self.number % 64) as u32)
     }

@@ -27,10 +27,12 @@ impl Operations for Tri {
 
     ghost choice_known = { three_choice_known };
 
+    /// A value that is known.
     fn known(b: bool) -> Tri {
         if b { Tri::On } else { Tri::Off }
     }
 
+    /// The larger one in the order OFF, unsure, ON.
     fn or(self, other: Tri) -> Tri {
         if (self as u8) < (other as u8) {
             other
@@ -39,6 +41,7 @@ impl Operations for Tri {
         }
     }
 
+    /// The smaller one in the order OFF, unsure, ON.
     fn and(self, other: Tri) -> Tri {
         if (other as u8) < (self as u8) {
             other
@@ -47,6 +50,7 @@ impl Operations for Tri {
         }
     }
 
+    /// The inverse, unsure where this is.
     fn not(self) -> Tri {
         match self {
             Tri::Off => Tri::On,
@@ -55,6 +59,7 @@ impl Operations for Tri {
         }
     }
 
+    /// The side that the condition takes; if it is unsure, what both sides agree on.
     fn choose(condition: Tri, on: Tri, off: Tri) -> Tri {
         match condition {
             Tri::On => on,
@@ -63,6 +68,7 @@ impl Operations for Tri {
         }
     }
 
+    /// Each of the three is a value.
     fn is_value(self) -> bool {
         true
     }

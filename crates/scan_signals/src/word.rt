@@ -17,26 +17,32 @@ impl Operations for Word64 {
 
     ghost choice_known = { words_choice_known };
 
+    /// The same truth value at all 64 places.
     fn known(b: bool) -> Word64 {
         Word64(if b { u64::MAX } else { 0 })
     }
 
+    /// The OR at each place.
     fn or(self, other: Word64) -> Word64 {
         Word64(self.0 | other.0)
     }
 
+    /// The AND at each place.
     fn and(self, other: Word64) -> Word64 {
         Word64(self.0 & other.0)
     }
 
+    /// The inverse at each place.
     fn not(self) -> Word64 {
         Word64(!self.0)
     }
 
+    /// At each place the bit of the side that the condition's bit takes.
     fn choose(condition: Word64, on: Word64, off: Word64) -> Word64 {
         Word64((condition.0 & on.0) | (!condition.0 & off.0))
     }
 
+    /// Any word is a value.
     fn is_value(self) -> bool {
         let _number = self.0;
         true

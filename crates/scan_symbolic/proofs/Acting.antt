@@ -1,10 +1,10 @@
 -- Along the actions of a rung the effects over any signal are those of all its places.
 use Rattle.std.proofs.Common.{◌≡◌, ℕ, ◌+◌, ◌<◌, ◌≤◌, true, false, List, [], ◌∷◌, ◌++◌, set, get_or, zero, suc, refl, sym, ap, subst, ◌∙◌, arith, All, inl, inr}
-use Rattle.std.proofs.lemmas.Bool.{cases_Bool}
+use Rattle.std.proofs.lemmas.Bool.{cases_Bool, cond-true, cond-false}
 use Rattle.std.proofs.lemmas.List.Elements.{All-append, All-nil}
 use Rattle.diagram_program.specs.declared.geometry.TheConstants.{PLACES}
 use Rattle.diagram_program.specs.declared.cell.Cell.{Cell}
-use Rattle.diagram_program.specs.declared.cell.Cell.TheVariants.{Empty, Wire, Contact, Coil, Block, Lower, Jump, Return}
+use Rattle.diagram_program.specs.declared.cell.Cell.TheVariants.{Coil, Block}
 use Rattle.diagram_program.specs.declared.gates.Action.{Action}
 use Rattle.diagram_program.specs.declared.gates.TheConstants.{OWN}
 use Rattle.diagram_program.specs.Program.{Drawing, cell_of, is_block}
@@ -17,7 +17,7 @@ use Rattle.scan_cycle.specs.Programs.{diagram_of}
 use Rattle.scan_cycle.specs.Gating.{among, AreLinks}
 use Rattle.scan_symbolic.specs.Gating.{acted, effects_of}
 use Rattle.scan_cycle.proofs.Feeders.{cell_is}
-use Rattle.scan_cycle.proofs.Acting.{cond_true, cond_false, all_one}
+use Rattle.scan_cycle.proofs.GateLaws.{all_one}
 
 -- An action has the cell at its place.
 abbrev pub HasCell : Drawing → ℕ → Action → Type 0
@@ -27,9 +27,9 @@ cells_before : (p : Drawing) (j n : ℕ) → n ≤ PLACES → All (HasCell p j) 
 unfolding actions_before
 cells_before p j zero h = All-nil _
 cells_before p j (suc n) h = elim (cases_Bool (acts (cell_of p j n))) [
-  | inl t ↦ subst (λ (xs : List Action). All (HasCell p j) xs) (sym (cond_true (acts (cell_of p j n)) _ _ t))
+  | inl t ↦ subst (λ (xs : List Action). All (HasCell p j) xs) (sym (cond-true (acts (cell_of p j n)) _ _ t))
       (All-append (HasCell p j) (actions_before p j n) _ (cells_before p j n (omega arith)) (all_one (HasCell p j) (action_at p j n) (cell_is p j n (omega arith))))
-  | inr t ↦ subst (λ (xs : List Action). All (HasCell p j) xs) (sym (cond_false (acts (cell_of p j n)) _ _ t)) (cells_before p j n (omega arith))
+  | inr t ↦ subst (λ (xs : List Action). All (HasCell p j) xs) (sym (cond-false (acts (cell_of p j n)) _ _ t)) (cells_before p j n (omega arith))
 ]
 
 pub action_cells : (p : Drawing) (j : ℕ) → All (HasCell p j) (actions_of p j)
@@ -39,26 +39,16 @@ action_cells p j = cells_before p j PLACES (omega arith)
 module _ {S : Type 0} (o : Algebra S) (p : Drawing) (k : Kept) (now j : ℕ) (guard : S) where
   -- a cell that does not act writes nothing
   quiet : (c : Cell) (x y : S) (f : Frame S) → acts c ≡ false → written o (diagram_of p) k now guard c x y f ≡ f
-  quiet Empty x y f h = refl
-  quiet Wire x y f h = refl
-  quiet (Contact mode operand memory) x y f h = refl
   quiet (Coil mode var memory) x y f h = cc
   quiet (Block inst) x y f h = cc
-  quiet (Lower inst linked) x y f h = refl
-  quiet (Jump target) x y f h = refl
-  quiet Return x y f h = refl
+  quiet _ x y f h = refl
 
   one : (c : Cell) (place left below : ℕ) (R : List S) (x y : S) (f : Frame S) → among o R left ≡ x
       → (is_block c ≡ true → among o R (OWN + place) ≡ q_here o (diagram_of p) k now c x y)
       → acted o k guard R (record { cell = c; place = place; left = left; below = below }) f ≡ written o (diagram_of p) k now guard c x y f
-  one Empty place left below R x y f h q = refl
-  one Wire place left below R x y f h q = refl
-  one (Contact mode operand memory) place left below R x y f h q = refl
   one (Coil mode var memory) place left below R x y f h q = ap (λ z. written o (diagram_of p) k now guard (Coil mode var memory) z y f) h
   one (Block inst) place left below R x y f h q = ap (λ z. record f { ends = set f.ends inst (o.choice guard z (get_or f.ends inst (o.known false))) }) (q refl)
-  one (Lower inst linked) place left below R x y f h q = refl
-  one (Jump target) place left below R x y f h q = refl
-  one Return place left below R x y f h q = refl
+  one _ place left below R x y f h q = refl
 
   effects_append : (R : List S) (xs ys : List Action) (f : Frame S) → effects_of o k guard R (xs ++ ys) f ≡ effects_of o k guard R ys (effects_of o k guard R xs f)
   unfolding effects_of
@@ -83,13 +73,13 @@ module _ {S : Type 0} (o : Algebra S) (p : Drawing) (k : Kept) (now j : ℕ) (gu
     along zero h g = refl
     along (suc n) h g = elim (cases_Bool (acts (cell_of p j n))) [
       | inl t ↦
-          ap (λ xs. effects_of o k guard R xs g) (cond_true (acts (cell_of p j n)) (actions_before p j n ++ action_at p j n ∷ []) _ t)
+          ap (λ xs. effects_of o k guard R xs g) (cond-true (acts (cell_of p j n)) (actions_before p j n ++ action_at p j n ∷ []) _ t)
           ∙ effects_append R (actions_before p j n) (action_at p j n ∷ []) g
           ∙ effects_one R (action_at p j n) _
           ∙ action_is n (omega arith) _
           ∙ ap (written o (diagram_of p) k now guard ((diagram_of p).cell j n) (lk n) (second o (diagram_of p) j lk n)) (along n (omega arith) g)
       | inr t ↦
-          ap (λ xs. effects_of o k guard R xs g) (cond_false (acts (cell_of p j n)) (actions_before p j n ++ action_at p j n ∷ []) _ t)
+          ap (λ xs. effects_of o k guard R xs g) (cond-false (acts (cell_of p j n)) (actions_before p j n ++ action_at p j n ∷ []) _ t)
           ∙ along n (omega arith) g
           ∙ sym (quiet ((diagram_of p).cell j n) (lk n) (second o (diagram_of p) j lk n) _ (ap acts (cell_is p j n (omega arith)) ∙ t))
     ]

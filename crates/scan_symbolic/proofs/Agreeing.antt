@@ -1,6 +1,6 @@
 -- What the kept steps leave agrees with what all steps leave, as far as it is needed.
 use Rattle.std.proofs.Common.{◌≡◌, ℕ, ◌+◌, ◌||◌, Bool, true, false, cond, List, [], ◌∷◌, length, set, get_or, All, zero, suc, pred, refl, sym, ap, ap₂, subst, ◌∙◌, arith, get_or-set_other, length-set, inl, inr}
-use Rattle.std.proofs.lemmas.Bool.{cases_Bool, cases_eq}
+use Rattle.std.proofs.lemmas.Bool.{cases_Bool, cases_eq, or_parts}
 use Rattle.std.proofs.lemmas.List.Elements.{All-cons, All-head, All-tail}
 use Rattle.diagram_declarations.specs.declared.kind.BlockKind.TheVariants.{Ton}
 use Rattle.diagram_program.specs.declared.cell.Operand.TheVariants as operand
@@ -37,11 +37,6 @@ marked_still m n i h = elim (cases_eq i n) [
 
 not_both : (b : Bool) → b ≡ true → b ≡ false → ⊥
 not_both b t f = cc
-
-neither : (a b : Bool) → (a || b) ≡ false → (a ≡ false) × (b ≡ false)
-neither false false h = (refl, refl)
-neither false true h = cc
-neither true b h = cc
 
 -- ---- lists that are alike where they are marked
 pub record Alike {S : Type 0} (off : S) (m : List Bool) (xs ys : List S) : Type 0 where
@@ -136,36 +131,21 @@ module _ {S : Type 0} (o : Algebra S) (p : Drawing) (k : Kept) (now : ℕ) where
 
     kept_missed : (y : S) → (marked m spot.place || marked m (OWN + spot.place)) ≡ false → Alike off m ls ks → Alike off m ls (keeping o ks spot y)
     kept_missed y none a =
-        let w = neither (marked m spot.place) (marked m (OWN + spot.place)) none in
+        let w = or_parts (marked m spot.place) (marked m (OWN + spot.place)) none in
         missed off m ls _ spot.place _ w.0 (missed off m ls ks (OWN + spot.place) y w.1 a)
 
   -- what a contact reads
   fewer_values : (c : Cell) (m : List Bool) (xs ys : List S) → Alike off (cell_values c m) xs ys → Alike off m xs ys
-  fewer_values cell.Empty m xs ys a = a
-  fewer_values cell.Wire m xs ys a = a
   fewer_values (cell.Contact mode (operand.Var var) memory) m xs ys a = fewer off m var xs ys a
-  fewer_values (cell.Contact mode (operand.Output inst) memory) m xs ys a = a
-  fewer_values (cell.Coil mode var memory) m xs ys a = a
-  fewer_values (cell.Block inst) m xs ys a = a
-  fewer_values (cell.Lower inst linked) m xs ys a = a
-  fewer_values (cell.Jump target) m xs ys a = a
-  fewer_values cell.Return m xs ys a = a
+  fewer_values _ m xs ys a = a
 
   fewer_ends : (c : Cell) (m : List Bool) (xs ys : List S) → Alike off (cell_ends c m) xs ys → Alike off m xs ys
-  fewer_ends cell.Empty m xs ys a = a
-  fewer_ends cell.Wire m xs ys a = a
-  fewer_ends (cell.Contact mode (operand.Var var) memory) m xs ys a = a
   fewer_ends (cell.Contact mode (operand.Output inst) memory) m xs ys a = fewer off m inst xs ys a
-  fewer_ends (cell.Coil mode var memory) m xs ys a = a
-  fewer_ends (cell.Block inst) m xs ys a = a
-  fewer_ends (cell.Lower inst linked) m xs ys a = a
-  fewer_ends (cell.Jump target) m xs ys a = a
-  fewer_ends cell.Return m xs ys a = a
+  fewer_ends _ m xs ys a = a
 
   module _ (f g : Frame S) (vs es : List Bool) (x y u v : S) (ex : x ≡ u) (ey : y ≡ v) where
     own_alike : (c : Cell) → Alike off (cell_values c vs) f.values g.values → Alike off (cell_ends c es) f.ends g.ends
         → own o (diagram_of p) k now f c x y ≡ own o (diagram_of p) k now g c u v
-    own_alike cell.Empty a b = ap (λ z. o.meet z off) ex
     own_alike cell.Wire a b = ap (λ z. o.meet z (o.known true)) ex
     own_alike (cell.Contact mode (operand.Var var) memory) a b =
         ap₂ (λ z w. o.meet z (contact o mode w (o.known (memory_of k (cell.Contact mode (operand.Var var) memory))))) ex (here off vs var f.values g.values a)
@@ -173,9 +153,7 @@ module _ {S : Type 0} (o : Algebra S) (p : Drawing) (k : Kept) (now : ℕ) where
         ap₂ (λ z w. o.meet z (contact o mode w (o.known (memory_of k (cell.Contact mode (operand.Output inst) memory))))) ex (here off es inst f.ends g.ends b)
     own_alike (cell.Coil mode var memory) a b = ap (λ z. o.meet z (o.known true)) ex
     own_alike (cell.Block inst) a b = ap₂ (λ z w. q_here o (diagram_of p) k now (cell.Block inst) z w) ex ey
-    own_alike (cell.Lower inst linked) a b = ap (λ z. o.meet z off) ex
-    own_alike (cell.Jump target) a b = ap (λ z. o.meet z off) ex
-    own_alike cell.Return a b = ap (λ z. o.meet z off) ex
+    own_alike _ a b = ap (λ z. o.meet z off) ex
 
   -- ---- actions
   abbrev action : Cell → ℕ → ℕ → Action
@@ -187,52 +165,28 @@ module _ {S : Type 0} (o : Algebra S) (p : Drawing) (k : Kept) (now : ℕ) where
   module _ (f g : Frame S) (a b : S) (ls ks : List S) (place left : ℕ) (e : a ≡ b) where
     act_values : (c : Cell) (m : List Bool) → among o ls left ≡ among o ks left → Alike off m f.values g.values
         → Alike off m (acted o k a ls (action c place left) f).values (acted o k b ks (action c place left) g).values
-    act_values cell.Empty m h w = w
-    act_values cell.Wire m h w = w
-    act_values (cell.Contact mode operand memory) m h w = w
     act_values (cell.Coil mode var memory) m h w =
         wrote off m f.values g.values var _ _ w
         (λ t.
         let old = w.at var t in
         chosen_alike a b _ _ _ _ e (ap₂ (λ z y. stored_by o mode z (o.known (memory_of k (cell.Coil mode var memory))) y) h old) old)
-    act_values (cell.Block inst) m h w = w
-    act_values (cell.Lower inst linked) m h w = w
-    act_values (cell.Jump target) m h w = w
-    act_values cell.Return m h w = w
+    act_values _ m h w = w
 
     act_ends : (c : Cell) (m : List Bool) → among o ls (OWN + place) ≡ among o ks (OWN + place) → Alike off m f.ends g.ends
         → Alike off m (acted o k a ls (action c place left) f).ends (acted o k b ks (action c place left) g).ends
-    act_ends cell.Empty m h w = w
-    act_ends cell.Wire m h w = w
-    act_ends (cell.Contact mode operand memory) m h w = w
-    act_ends (cell.Coil mode var memory) m h w = w
     act_ends (cell.Block inst) m h w = wrote off m f.ends g.ends inst _ _ w (λ t. chosen_alike a b _ _ _ _ e h (w.at inst t))
-    act_ends (cell.Lower inst linked) m h w = w
-    act_ends (cell.Jump target) m h w = w
-    act_ends cell.Return m h w = w
+    act_ends _ m h w = w
 
   module _ (n : Needs) (f g : Frame S) (b : S) (ks : List S) (place left : ℕ) where
     missed_values : (c : Cell) → keeps_act n c ≡ false → Alike off n.values f.values g.values
         → Alike off n.values f.values (acted o k b ks (action c place left) g).values
-    missed_values cell.Empty h w = w
-    missed_values cell.Wire h w = w
-    missed_values (cell.Contact mode operand memory) h w = w
     missed_values (cell.Coil mode var memory) h w = missed off n.values f.values g.values var _ h w
-    missed_values (cell.Block inst) h w = w
-    missed_values (cell.Lower inst linked) h w = w
-    missed_values (cell.Jump target) h w = w
-    missed_values cell.Return h w = w
+    missed_values _ h w = w
 
     missed_ends : (c : Cell) → keeps_act n c ≡ false → Alike off n.ends f.ends g.ends
         → Alike off n.ends f.ends (acted o k b ks (action c place left) g).ends
-    missed_ends cell.Empty h w = w
-    missed_ends cell.Wire h w = w
-    missed_ends (cell.Contact mode operand memory) h w = w
-    missed_ends (cell.Coil mode var memory) h w = w
     missed_ends (cell.Block inst) h w = missed off n.ends f.ends g.ends inst _ h w
-    missed_ends (cell.Lower inst linked) h w = w
-    missed_ends (cell.Jump target) h w = w
-    missed_ends cell.Return h w = w
+    missed_ends _ h w = w
 
   -- ---- a step that is kept
   kept_step : (s : Step) (n : Needs) (g h : Going S) → Agree o (reads p s n) g h → Agree o n (gone o p k now s g) (gone o p k now s h)

@@ -2,6 +2,8 @@
 use Rattle.std.proofs.Common.{◌≡◌, ℕ, ◌+◌, ◌-◌, ◌<◌, ◌≤◌, ◌&&◌, Bool, true, false, cond, List, [], ◌∷◌, ◌++◌, get_or, drop, length, zero, suc, nat_lt, refl, sym, ap, ◌∙◌, arith, Option, Some, None}
 use Rattle.std.proofs.lemmas.Bool.Decides.{nat_tests}
 use Rattle.std.proofs.lemmas.List.{drop_more, drop_all}
+use Rattle.std.proofs.lemmas.Option.{same_Some}
+use Rattle.std.proofs.lemmas.Bool.{le-ltb}
 use Rattle.diagram_program.specs.declared.gates.Exit.{Exit}
 use Rattle.diagram_program.specs.declared.gates.Leap.{Leap}
 use Rattle.diagram_program.specs.Program.{Drawing, jump_of}
@@ -12,21 +14,17 @@ use Rattle.scan_cycle.specs.Programs.{diagram_of}
 use Rattle.scan_cycle.proofs.Sound.{placed}
 use Rattle.scan_cycle.specs.Gating.{among}
 use Rattle.scan_symbolic.specs.Gating.{guard_by, taken_by_exit}
-use Rattle.scan_cycle.proofs.Exits.{some_same}
 
 -- ---- the jump of a rung
 by_exit : {S : Type 0} (o : Algebra S) (p : Drawing) (j : ℕ) (guard : S) (links : ℕ → S) (jump : Option (ℕ × ℕ × ℕ)) (exit : Exit) → exit_by p j jump ≡ Some exit
     → o.meet guard (links exit.left) ≡ taken_by o (placed jump) guard (λ place. links (left_of p j place))
 by_exit o p j guard links None exit h = cc
-by_exit o p j guard links (Some (row, column, target)) exit h = ap (λ (e : Exit). o.meet guard (links e.left)) (sym (some_same _ exit h))
+by_exit o p j guard links (Some (row, column, target)) exit h = ap (λ (e : Exit). o.meet guard (links e.left)) (sym (same_Some _ exit h))
 
 by_none : {S : Type 0} (o : Algebra S) (p : Drawing) (j : ℕ) (guard : S) (links : ℕ → S) (jump : Option (ℕ × ℕ × ℕ)) → exit_by p j jump ≡ None
     → o.known false ≡ taken_by o (placed jump) guard (λ place. links (left_of p j place))
 by_none o p j guard links None h = refl
 by_none o p j guard links (Some (row, column, target)) h = cc
-
-not_less : (a b : ℕ) → b ≤ a → nat_lt a b ≡ false
-not_less a b h = grind (arith, nat_tests)
 
 module _ (p : Drawing) (j : ℕ) where
   pub taken_exit : {S : Type 0} (o : Algebra S) (guard : S) (links : ℕ → S) (exit : Exit) → exit_of p j ≡ Some exit
@@ -104,7 +102,7 @@ module _ {S : Type 0} (o : Algebra S) (p : Drawing) (taken : List S) (j : ℕ) w
       let next : j + suc m ≡ suc (j + m) = omega arith in
       ap (λ n. guard_by o taken j (leaps_below p n) (o.known true)) next
       ∙ guard_append (leaps_below p (j + m)) (leap_by (j + m) (jump_of p (j + m))) (o.known true)
-      ∙ one_leap (j + m) false (jump_of p (j + m)) _ (not_less (j + m) j (omega arith))
+      ∙ one_leap (j + m) false (jump_of p (j + m)) _ (le-ltb (j + m) j (omega arith))
       ∙ behind m
 
   pub guard_is : j < p.rungs → guard_by o taken j (leaps_below p p.rungs) (o.known true) ≡ guard_of o (diagram_of p) taken j

@@ -1,13 +1,13 @@
 -- A look as the code makes it leaves what the scan over what is known leaves: memories and instances are found as they were stored, since
 -- each belongs to one cell.
-use Rattle.std.proofs.Common.{◌≡◌, ℕ, ◌+◌, ◌*◌, ◌/◌, ◌%◌, ◌<◌, ◌≤◌, false, List, [], ◌∷◌, ◌++◌, get_or, map, set, zero, suc, Option, Some, None, refl, sym, ap, ap₂, ◌∙◌, arith, get_or-set_other}
+use Rattle.std.proofs.Common.{◌≡◌, ℕ, ◌+◌, ◌*◌, ◌/◌, ◌%◌, ◌<◌, ◌≤◌, false, List, [], ◌∷◌, ◌++◌, get_or, map, set, zero, suc, Option, Some, None, refl, sym, ap, ap₂, ◌∙◌, arith}
 use Rattle.std.proofs.Math.ListN.{get_or-map}
 use Rattle.std.proofs.lemmas.List.{map-set}
 use Rattle.diagram_program.specs.declared.geometry.TheConstants.{ROWS, PLACES}
 use Rattle.diagram_declarations.specs.declared.kind.BlockKind.{BlockKind}
 use Rattle.diagram_declarations.specs.declared.kind.BlockKind.TheVariants.{Ton}
 use Rattle.diagram_program.specs.declared.cell.Cell.{Cell}
-use Rattle.diagram_program.specs.declared.cell.Cell.TheVariants.{Empty, Wire, Contact, Coil, Block, Lower, Jump, Return}
+use Rattle.diagram_program.specs.declared.cell.Cell.TheVariants.{Contact, Coil, Block}
 use Rattle.diagram_program.specs.Program.{memory_in, block_in, is_block}
 use Rattle.scan_signals.specs.declared.block.Stored.{Stored}
 use Rattle.scan_signals.specs.Algebra.{Algebra}
@@ -21,6 +21,7 @@ use Rattle.scan_symbolic.specs.KnownScan.{Keeping, Known, all_known, after_known
 use Rattle.scan_symbolic.proofs.Guards.{taken_same}
 use Rattle.scan_symbolic.proofs.Lists.{same_kept}
 use Rattle.scan_symbolic.specs.ByFrames.{written, effects, looked, look_frame, framed_look}
+use Rattle.scan_cycle.proofs.Changes.{at_same, put_other}
 
 -- An instance that is kept as it was stored shows the stored Q, and its step that of a look; a choice shows the choice.
 pub record Shows {S B : Type 0} (o : Algebra S) (w : Keeping S B) : Type 0 where
@@ -32,14 +33,6 @@ pub record Shows {S B : Type 0} (o : Algebra S) (w : Keeping S B) : Type 0 where
 at-map : {A B : Type 0} (f : A → B) (xs : List A) (m : Option ℕ) (d : A) → at (map f xs) m (f d) ≡ f (at xs m d)
 at-map f xs None d = refl
 at-map f xs (Some i) d = get_or-map f xs i d
-
-at_same : {A : Type 0} (xs ys : List A) (m : Option ℕ) (d : A) → ((i : ℕ) → m ≡ Some i → get_or xs i d ≡ get_or ys i d) → at xs m d ≡ at ys m d
-at_same xs ys None d h = refl
-at_same xs ys (Some i) d h = h i refl
-
-put_other : {A : Type 0} (xs : List A) (m : Option ℕ) (v d : A) (i : ℕ) → (m ≡ Some i → ⊥) → get_or (put_in xs m v) i d ≡ get_or xs i d
-put_other xs None v d i h = refl
-put_other xs (Some n) v d i h = get_or-set_other xs n i v d (λ e. h (ap Some (sym e)))
 
 map_twice : {A B C : Type 0} (f : A → B) (g : B → C) (h : A → C) → ((x : A) → g (f x) ≡ h x) → (xs : List A) → map g (map f xs) ≡ map h xs
 map_twice f g h same [] = refl
@@ -57,25 +50,14 @@ module _ {S B : Type 0} (o : Algebra S) (w : Keeping S B) (shows : Shows o w) (d
   -- ---- a cell writes its own memory and its own instance alone
   changed_memories : (start : Frame S) (guard : S) (c : Cell) (x y : S) (k : Known S B)
       → (v : S) × ((changed_in o w d now start guard c x y k).memories ≡ put_in k.memories (memory_in c) v)
-  changed_memories start guard Empty x y k = (x, refl)
-  changed_memories start guard Wire x y k = (x, refl)
   changed_memories start guard (Contact mode operand memory) x y k = (_, refl)
   changed_memories start guard (Coil mode var memory) x y k = (_, refl)
-  changed_memories start guard (Block inst) x y k = (x, refl)
-  changed_memories start guard (Lower inst linked) x y k = (x, refl)
-  changed_memories start guard (Jump target) x y k = (x, refl)
-  changed_memories start guard Return x y k = (x, refl)
+  changed_memories start guard _ x y k = (x, refl)
 
   changed_blocks : (start : Frame S) (guard : S) (c : Cell) (x y : S) (k : Known S B)
       → (b : B) × ((changed_in o w d now start guard c x y k).blocks ≡ put_in k.blocks (block_in c) b)
-  changed_blocks start guard Empty x y k = (w.stored (new_block Ton), refl)
-  changed_blocks start guard Wire x y k = (w.stored (new_block Ton), refl)
-  changed_blocks start guard (Contact mode operand memory) x y k = (w.stored (new_block Ton), refl)
-  changed_blocks start guard (Coil mode var memory) x y k = (w.stored (new_block Ton), refl)
   changed_blocks start guard (Block inst) x y k = (_, refl)
-  changed_blocks start guard (Lower inst linked) x y k = (w.stored (new_block Ton), refl)
-  changed_blocks start guard (Jump target) x y k = (w.stored (new_block Ton), refl)
-  changed_blocks start guard Return x y k = (w.stored (new_block Ton), refl)
+  changed_blocks start guard _ x y k = (w.stored (new_block Ton), refl)
 
   memory_stays : (j : ℕ) (start : Frame S) (guard : S) (links : ℕ → S) (k : Known S B) (n i : ℕ) → ((e : ℕ) → e < n → memory_in (d.cell j e) ≡ Some i → ⊥)
       → get_or (changes_in o w d now j start guard links n k).memories i (o.known false) ≡ get_or k.memories i (o.known false)
@@ -113,23 +95,14 @@ module _ {S B : Type 0} (o : Algebra S) (w : Keeping S B) (shows : Shows o w) (d
 
   -- ---- one cell
   q_same : (k : Known S B) (c : Cell) → CellKnown k c → (x y u v : S) → x ≡ u → y ≡ v → q_in o w d now k c x y ≡ q_here o d h now c u v
-  q_same k Empty known x y u v e f = refl
-  q_same k Wire known x y u v e f = refl
-  q_same k (Contact mode operand memory) known x y u v e f = refl
-  q_same k (Coil mode var memory) known x y u v e f = refl
   q_same k (Block inst) known x y u v e f =
       ap (λ b. w.q (w.step (d.kind inst) (d.preset inst) b x y now)) known.1
       ∙ shows.step (d.kind inst) (d.preset inst) (stored_of h (Block inst)) x y now
       ∙ ap₂ (λ s t. q_from o (d.kind inst) (d.preset inst) (stored_of h (Block inst)) now s t) e f
-  q_same k (Lower inst linked) known x y u v e f = refl
-  q_same k (Jump target) known x y u v e f = refl
-  q_same k Return known x y u v e f = refl
+  q_same k _ known x y u v e f = refl
 
   cell_same : (start : Frame S) (guard : S) (c : Cell) (x y : S) (k : Known S B) → CellKnown k c
       → frame_in w (changed_in o w d now start guard c x y k) ≡ written o d h now guard c x y (frame_in w k)
-  cell_same start guard Empty x y k known = refl
-  cell_same start guard Wire x y k known = refl
-  cell_same start guard (Contact mode operand memory) x y k known = refl
   cell_same start guard (Coil mode var memory) x y k known =
       let old = get_or k.values var (o.known false) in
       ap (λ m. frame (set k.values var (o.choice guard (stored_by o mode x m old) old)) (map w.q k.blocks)) known.0
@@ -141,9 +114,7 @@ module _ {S B : Type 0} (o : Algebra S) (w : Keeping S B) (shows : Shows o w) (d
       ap (frame k.values) (map-set w.q k.blocks inst (w.choice guard now_q was)
       ∙ ap (set (map w.q k.blocks) inst) (shows.choice guard now_q was
       ∙ ap₂ (o.choice guard) (q_same k (Block inst) known x y x y refl refl) out))
-  cell_same start guard (Lower inst linked) x y k known = refl
-  cell_same start guard (Jump target) x y k known = refl
-  cell_same start guard Return x y k known = refl
+  cell_same start guard _ x y k known = refl
 
   -- ---- one rung
   link_same : (j : ℕ) (k : Known S B) → RungKnown j k → (e : ℕ) → link_in o w d now j k e ≡ link o d h now j (frame_in w k) e

@@ -2,8 +2,8 @@
 use Rattle.std.proofs.Common.{◌≡◌, ℕ, List, [], ◌∷◌, length, map, refl, ap, ◌∙◌, length-set}
 use Rattle.std.proofs.lemmas.List.{length-map}
 use Rattle.diagram_program.specs.declared.steps.Step.{Step}
-use Rattle.diagram_program.specs.declared.steps.Step.TheVariants.{Is, Not, Rare}
-use Rattle.diagram_program.specs.declared.steps.Rare.TheVariants.{Wire, Rising, Falling, Block, Own, Store, Set, Reset, End, Act, Leave, Turn}
+use Rattle.diagram_program.specs.declared.steps.Step.TheVariants.{Rare}
+use Rattle.diagram_program.specs.declared.steps.Rare.TheVariants.{End, Act}
 use Rattle.diagram_program.specs.Program.{Drawing, block_in}
 use Rattle.scan_signals.specs.Algebra.{Algebra}
 use Rattle.scan_signals.specs.Blocks.{q_of}
@@ -17,20 +17,9 @@ use Rattle.scan_symbolic.proofs.StepWise.{values_length}
 
 module _ {S : Type 0} (o : Algebra S) (p : Drawing) (k : Kept) (now : ℕ) where
   ends_length : (guard : S) (links : List S) (s : Step) (f : Frame S) → length (frame_after o p k guard links s f).ends ≡ length f.ends
-  ends_length guard links (Is spot var) f = refl
-  ends_length guard links (Not spot var) f = refl
-  ends_length guard links (Rare (Wire spot)) f = refl
-  ends_length guard links (Rare (Rising spot var memory)) f = refl
-  ends_length guard links (Rare (Falling spot var memory)) f = refl
-  ends_length guard links (Rare (Block spot below inst)) f = refl
-  ends_length guard links (Rare (Own spot below rung)) f = refl
-  ends_length guard links (Rare (Store left var)) f = refl
-  ends_length guard links (Rare (Set left var)) f = refl
-  ends_length guard links (Rare (Reset left var)) f = refl
   ends_length guard links (Rare (End place inst)) f = length-set f.ends inst _
   ends_length guard links (Rare (Act rung place left)) f = size-put_in f.ends (block_in ((diagram_of p).cell rung place)) _
-  ends_length guard links (Rare (Leave rung left)) f = refl
-  ends_length guard links (Rare (Turn rung)) f = refl
+  ends_length guard links _ f = refl
 
   gone_values : (ss : List Step) (g : Going S) → length (all_gone o p k now ss g).frame.values ≡ length g.frame.values
   unfolding all_gone

@@ -5,7 +5,7 @@ use Rattle.scan_signals.specs.Relations.{IsKept, Both}
 use Rattle.diagram_program.specs.declared.mode.CoilMode.{CoilMode}
 use Rattle.diagram_program.specs.declared.mode.CoilMode.TheVariants as coil
 use Rattle.diagram_program.specs.declared.cell.Cell.{Cell}
-use Rattle.diagram_program.specs.declared.cell.Cell.TheVariants.{Empty, Wire, Contact, Coil, Block, Lower, Jump, Return}
+use Rattle.diagram_program.specs.declared.cell.Cell.TheVariants.{Coil}
 use Rattle.scan_cycle.specs.Cells.{at, put_in, coil_value, stored_by}
 use Rattle.scan_cycle.specs.Scan.{given}
 use Rattle.scan_cycle.proofs.Kept.{get_kept}
@@ -37,29 +37,20 @@ module _ {A B : Type 0} (a : Algebra A) (b : Algebra B) (R : A → B → Type 0)
   stored_kept coil.Falling l m x u n v r s t = k.meet _ _ _ _ (k.inverse _ _ r) s
 
   pub coil_kept : (c : Cell) (l m x : A) (u n v : B) → R l u → R m n → R x v → R (coil_value a c l m x) (coil_value b c u n v)
-  coil_kept Empty l m x u n v r s t = t
-  coil_kept Wire l m x u n v r s t = t
-  coil_kept (Contact mode operand memory) l m x u n v r s t = t
   coil_kept (Coil mode var memory) l m x u n v r s t = stored_kept mode l m x u n v r s t
-  coil_kept (Block inst) l m x u n v r s t = t
-  coil_kept (Lower inst linked) l m x u n v r s t = t
-  coil_kept (Jump target) l m x u n v r s t = t
-  coil_kept Return l m x u n v r s t = t
+  coil_kept _ l m x u n v r s t = t
 
   -- ---- what the rungs begin with
   pub given_kept : (flags : List Bool) (xs : List A) (vs : List B) → Both R xs vs → (ys : List A) (ws : List B) → Both R ys ws → Both R (given flags xs ys) (given flags vs ws)
   given_kept [] xs vs h ys ws r = r
   given_kept (true ∷ flags) xs vs h [] [] r = tt
-  given_kept (true ∷ flags) xs vs h [] (w ∷ ws) r = absurd r
-  given_kept (true ∷ flags) xs vs h (y ∷ ys) [] r = absurd r
   given_kept (true ∷ flags) [] [] h (y ∷ ys) (w ∷ ws) r = (r.0, given_kept flags [] [] h ys ws r.1)
   given_kept (true ∷ flags) [] (v ∷ vs) h (y ∷ ys) (w ∷ ws) r = absurd h
   given_kept (true ∷ flags) (x ∷ xs) [] h (y ∷ ys) (w ∷ ws) r = absurd h
   given_kept (true ∷ flags) (x ∷ xs) (v ∷ vs) h (y ∷ ys) (w ∷ ws) r = (h.0, given_kept flags xs vs h.1 ys ws r.1)
   given_kept (false ∷ flags) xs vs h [] [] r = tt
-  given_kept (false ∷ flags) xs vs h [] (w ∷ ws) r = absurd r
-  given_kept (false ∷ flags) xs vs h (y ∷ ys) [] r = absurd r
   given_kept (false ∷ flags) xs vs h (y ∷ ys) (w ∷ ws) r = (r.0, given_kept flags xs vs h ys ws r.1)
+  given_kept _ xs vs h _ _ r = absurd r
 
   pub known_kept : {C : Type 0} (f : C → Bool) (cs : List C) → Both R (map (λ c. a.known (f c)) cs) (map (λ c. b.known (f c)) cs)
   known_kept f [] = tt

@@ -47,14 +47,8 @@ module _ {S T B C : Type 0} (a : Algebra S) (b : Algebra T) (v : Keeping S B) (w
 
   q_both : (k : Known S B) (l : Known T C) → BothKnown R Q k l → (c : Cell) (x y : S) (s t : T) → R x s → R y t
       → R (q_in a v d now k c x y) (q_in b w d then l c s t)
-  q_both k l h Empty x y s t e f = o.known false
-  q_both k l h Wire x y s t e f = o.known false
-  q_both k l h (Contact mode operand memory) x y s t e f = o.known false
-  q_both k l h (Coil mode var memory) x y s t e f = o.known false
   q_both k l h (Block inst) x y s t e f = p.q inst _ _ (p.step inst _ _ x y s t (kept_both k l h inst) e f)
-  q_both k l h (Lower inst linked) x y s t e f = o.known false
-  q_both k l h (Jump target) x y s t e f = o.known false
-  q_both k l h Return x y s t e f = o.known false
+  q_both k l h _ x y s t e f = o.known false
 
   link_both : (j : ℕ) (k : Known S B) (l : Known T C) → BothKnown R Q k l → (e : ℕ) → R (link_in a v d now j k e) (link_in b w d then j l e)
   link_both j k l h e =

@@ -8,7 +8,7 @@ use Rattle.scan_signals.specs.declared.block.Stored.{Stored}
 use Rattle.diagram_declarations.specs.declared.kind.BlockKind.{BlockKind}
 use Rattle.diagram_declarations.specs.declared.kind.BlockKind.TheVariants.{Ton}
 use Rattle.diagram_program.specs.declared.cell.Cell.{Cell}
-use Rattle.diagram_program.specs.declared.cell.Cell.TheVariants.{Empty, Wire, Contact, Coil, Block, Lower, Jump, Return}
+use Rattle.diagram_program.specs.declared.cell.Cell.TheVariants.{Empty, Contact, Coil, Block}
 use Rattle.diagram_program.specs.Program.{is_block}
 use Rattle.scan_signals.specs.Blocks.{step, q_of, new_block}
 use Rattle.scan_cycle.specs.Cells.{Diagram, Frame, q_from, q_here}
@@ -35,16 +35,10 @@ q_plain kind preset s now false false = refl
 
 q_same : (d : Diagram) (now : ℕ) (h : Held) (c : Cell) (x y s t : Bool) → x ≡ s → y ≡ t
     → q_in plain plainly d now (known_of h) c x y ≡ q_here plain d h.kept now c s t
-q_same d now h Empty x y s t e f = refl
-q_same d now h Wire x y s t e f = refl
-q_same d now h (Contact mode operand memory) x y s t e f = refl
-q_same d now h (Coil mode var memory) x y s t e f = refl
 q_same d now h (Block inst) x y s t e f =
     ap₂ (λ (u v : Bool). q_of (step (d.kind inst) (d.preset inst) (get_or h.kept.blocks inst (new_block Ton)) u v now)) e f
     ∙ sym (q_plain (d.kind inst) (d.preset inst) (get_or h.kept.blocks inst (new_block Ton)) now s t)
-q_same d now h (Lower inst linked) x y s t e f = refl
-q_same d now h (Jump target) x y s t e f = refl
-q_same d now h Return x y s t e f = refl
+q_same d now h _ x y s t e f = refl
 
 link_same : (d : Diagram) (now j : ℕ) (h : Held) (e : ℕ) → link_in plain plainly d now j (known_of h) e ≡ link_at d now j h e
 link_same d now j h e =
@@ -57,13 +51,7 @@ link_same d now j h e =
 changed_on : (d : Diagram) (now : ℕ) (start : Frame Bool) (c : Cell) (x y : Bool) (h : Held)
     → changed_in plain plainly d now start true c x y (known_of h) ≡ known_of (changed d now start c x y h)
 changed_on d now start Empty x y h = refl
-changed_on d now start Wire x y h = refl
-changed_on d now start (Contact mode operand memory) x y h = refl
-changed_on d now start (Coil mode var memory) x y h = refl
-changed_on d now start (Block inst) x y h = refl
-changed_on d now start (Lower inst linked) x y h = refl
-changed_on d now start (Jump target) x y h = refl
-changed_on d now start Return x y h = refl
+changed_on d now start _ x y h = refl
 
 knowns : (v w m n : List Bool) (x y : List Stored) → v ≡ w → m ≡ n → x ≡ y
     → (let k : Known Bool Stored = record { values = v; memories = m; blocks = x } in k) ≡ (record { values = w; memories = n; blocks = y })
@@ -71,14 +59,10 @@ knowns v w m n x y e f g = cc
 
 changed_off : (d : Diagram) (now : ℕ) (start : Frame Bool) (c : Cell) (x y : Bool) (k : Known Bool Stored)
     → changed_in plain plainly d now start false c x y k ≡ k
-changed_off d now start Empty x y k = refl
-changed_off d now start Wire x y k = refl
 changed_off d now start (Contact mode operand memory) x y k = knowns _ _ _ _ _ _ refl (put_same k.memories memory false) refl
 changed_off d now start (Coil mode var memory) x y k = knowns _ _ _ _ _ _ (set-get_or k.values var false) (put_same k.memories memory false) refl
 changed_off d now start (Block inst) x y k = knowns _ _ _ _ _ _ refl refl (set-get_or k.blocks inst (new_block Ton))
-changed_off d now start (Lower inst linked) x y k = refl
-changed_off d now start (Jump target) x y k = refl
-changed_off d now start Return x y k = refl
+changed_off d now start _ x y k = refl
 
 -- ---- one rung
 changes_on : (d : Diagram) (now j : ℕ) (start : Frame Bool) (links us : ℕ → Bool) → ((e : ℕ) → links e ≡ us e) → (n : ℕ) (h : Held)

@@ -93,11 +93,8 @@ join_like Off m x y u v h k = subst (λ z. IsLike m (z || u) (y || v)) (sym h.0)
 join_like Alike On x y u v h k = (ap (λ z. x || z) k.0 ∙ or_on x, ap (λ z. y || z) k.1 ∙ or_on y)
 join_like Alike Off x y u v h k = ap₂ (λ a b. a || b) h (k.0 ∙ sym k.1)
 join_like Alike Alike x y u v h k = ap₂ (λ a b. a || b) h k
-join_like Alike Open x y u v h k = tt
 join_like Open On x y u v h k = (ap (λ z. x || z) k.0 ∙ or_on x, ap (λ z. y || z) k.1 ∙ or_on y)
-join_like Open Off x y u v h k = tt
-join_like Open Alike x y u v h k = tt
-join_like Open Open x y u v h k = tt
+join_like _ _ x y u v h k = tt
 
 meet_like : (l m : Likeness) (x y u v : Bool) → IsLike l x y → IsLike m u v → IsLike (like_meet l m) (x && u) (y && v)
 meet_like Off m x y u v h k = (ap (λ z. z && u) h.0, ap (λ z. z && v) h.1)
@@ -105,11 +102,8 @@ meet_like On m x y u v h k = subst (λ z. IsLike m (z && u) (y && v)) (sym h.0) 
 meet_like Alike Off x y u v h k = (ap (λ z. x && z) k.0 ∙ and_off x, ap (λ z. y && z) k.1 ∙ and_off y)
 meet_like Alike On x y u v h k = ap₂ (λ a b. a && b) h (k.0 ∙ sym k.1)
 meet_like Alike Alike x y u v h k = ap₂ (λ a b. a && b) h k
-meet_like Alike Open x y u v h k = tt
 meet_like Open Off x y u v h k = (ap (λ z. x && z) k.0 ∙ and_off x, ap (λ z. y && z) k.1 ∙ and_off y)
-meet_like Open On x y u v h k = tt
-meet_like Open Alike x y u v h k = tt
-meet_like Open Open x y u v h k = tt
+meet_like _ _ x y u v h k = tt
 
 inverse_like : (l : Likeness) (x y : Bool) → IsLike l x y → IsLike (like_inverse l) (not x) (not y)
 inverse_like Off x y h = (ap not h.0, ap not h.1)
@@ -118,34 +112,26 @@ inverse_like Alike x y h = ap not h
 inverse_like Open x y h = tt
 
 first_like : (l m : Likeness) (x y : Bool) → IsLike l x y → IsLike (like_either l m) x y
-first_like Off Off x y h = h
 first_like Off On x y h = h.0 ∙ sym h.1
 first_like Off Alike x y h = h.0 ∙ sym h.1
 first_like Off Open x y h = tt
 first_like On Off x y h = h.0 ∙ sym h.1
-first_like On On x y h = h
 first_like On Alike x y h = h.0 ∙ sym h.1
 first_like On Open x y h = tt
-first_like Alike Off x y h = h
-first_like Alike On x y h = h
-first_like Alike Alike x y h = h
 first_like Alike Open x y h = tt
 first_like Open m x y h = tt
+first_like _ _ x y h = h
 
 second_like : (l m : Likeness) (x y : Bool) → IsLike m x y → IsLike (like_either l m) x y
-second_like Off Off x y h = h
 second_like Off On x y h = h.0 ∙ sym h.1
-second_like Off Alike x y h = h
 second_like Off Open x y h = tt
 second_like On Off x y h = h.0 ∙ sym h.1
-second_like On On x y h = h
-second_like On Alike x y h = h
 second_like On Open x y h = tt
 second_like Alike Off x y h = h.0 ∙ sym h.1
 second_like Alike On x y h = h.0 ∙ sym h.1
-second_like Alike Alike x y h = h
 second_like Alike Open x y h = tt
 second_like Open m x y h = tt
+second_like _ _ x y h = h
 
 side : (d x u r : Bool) → x ≡ r → u ≡ r → cond d x u ≡ r
 side true x u r e f = e
@@ -157,15 +143,8 @@ either_like l m false x y u v h k = second_like l m u v k
 
 open_like : (l m : Likeness) (d e x y u v : Bool) → IsLike l x y → IsLike m u v → IsLike (like_choice Open l m) (cond d x u) (cond e y v)
 open_like Off Off d e x y u v h k = (side d x u false h.0 k.0, side e y v false h.1 k.1)
-open_like Off On d e x y u v h k = tt
-open_like Off Alike d e x y u v h k = tt
-open_like Off Open d e x y u v h k = tt
-open_like On Off d e x y u v h k = tt
 open_like On On d e x y u v h k = (side d x u true h.0 k.0, side e y v true h.1 k.1)
-open_like On Alike d e x y u v h k = tt
-open_like On Open d e x y u v h k = tt
-open_like Alike m d e x y u v h k = tt
-open_like Open m d e x y u v h k = tt
+open_like _ _ d e x y u v h k = tt
 
 choice_like : (c l m : Likeness) (d e x y u v : Bool) → IsLike c d e → IsLike l x y → IsLike m u v → IsLike (like_choice c l m) (cond d x u) (cond e y v)
 choice_like On l m d e x y u v g h k = subst (λ z. IsLike l (cond z x u) (cond e y v)) (sym g.0) (subst (λ z. IsLike l x (cond z y v)) (sym g.1) h)
@@ -219,27 +198,18 @@ pairs (x ∷ xs) (y ∷ ys) = (x, y) ∷ pairs xs ys
 
 pairs_known : (ls : List Likeness) (xs ys : List Bool) → AreLike ls xs ys → Both Knows ls (pairs xs ys)
 pairs_known [] [] [] h = tt
-pairs_known [] [] (y ∷ ys) h = absurd h
-pairs_known [] (x ∷ xs) ys h = absurd h
-pairs_known (l ∷ ls) [] ys h = absurd h
-pairs_known (l ∷ ls) (x ∷ xs) [] h = absurd h
 pairs_known (l ∷ ls) (x ∷ xs) (y ∷ ys) h = (h.0, pairs_known ls xs ys h.1)
+pairs_known _ _ _ h = absurd h
 
 pairs_first : (ls : List Likeness) (xs ys : List Bool) → AreLike ls xs ys → Both IsFirst (pairs xs ys) xs
 pairs_first [] [] [] h = tt
-pairs_first [] [] (y ∷ ys) h = absurd h
-pairs_first [] (x ∷ xs) ys h = absurd h
-pairs_first (l ∷ ls) [] ys h = absurd h
-pairs_first (l ∷ ls) (x ∷ xs) [] h = absurd h
 pairs_first (l ∷ ls) (x ∷ xs) (y ∷ ys) h = (refl, pairs_first ls xs ys h.1)
+pairs_first _ _ _ h = absurd h
 
 pairs_second : (ls : List Likeness) (xs ys : List Bool) → AreLike ls xs ys → Both IsSecond (pairs xs ys) ys
 pairs_second [] [] [] h = tt
-pairs_second [] [] (y ∷ ys) h = absurd h
-pairs_second [] (x ∷ xs) ys h = absurd h
-pairs_second (l ∷ ls) [] ys h = absurd h
-pairs_second (l ∷ ls) (x ∷ xs) [] h = absurd h
 pairs_second (l ∷ ls) (x ∷ xs) (y ∷ ys) h = (refl, pairs_second ls xs ys h.1)
+pairs_second _ _ _ h = absurd h
 
 sides : (ls : List Likeness) (ws : List (Bool × Bool)) (xs ys : List Bool) → Both Knows ls ws → Both IsFirst ws xs → Both IsSecond ws ys → AreLike ls xs ys
 sides [] [] [] [] k f s = tt
@@ -260,10 +230,8 @@ both_length (l ∷ ls) (w ∷ ws) k = ap suc (both_length ls ws k.1)
 
 -- a pair of which a likeness is known
 abbrev some : Likeness → Bool × Bool
-some Off = (false, false)
 some On = (true, true)
-some Alike = (false, false)
-some Open = (false, false)
+some _ = (false, false)
 
 some_known : (l : Likeness) → Knows l (some l)
 some_known Off = (refl, refl)

@@ -1,8 +1,8 @@
 -- What single steps do, and that they look at what is there.
 use Rattle.std.proofs.Common.{◌≡◌, ℕ, ◌+◌, ◌<◌, ◌≤◌, ◌*◌, ◌&&◌, Bool, true, false, cond, List, [], ◌∷◌, All, map, length, filter_map, set, zero, suc, nat_lt, refl, sym, ap, ◌∙◌, arith, Option, Some, None, inl, inr, subst}
 use Rattle.std.specs.List.{cons_option}
-use Rattle.std.proofs.lemmas.Bool.{cases_Bool}
-use Rattle.std.proofs.lemmas.List.Elements.{All-append, All-nil}
+use Rattle.std.proofs.lemmas.Bool.{cases_Bool, cond-true, cond-false}
+use Rattle.std.proofs.lemmas.List.Elements.{All-append, All-nil, All-cons}
 use Rattle.diagram_program.specs.declared.geometry.TheConstants.{ROWS, PLACES}
 use Rattle.diagram_program.specs.declared.mode.Mode.{Mode}
 use Rattle.diagram_program.specs.declared.mode.Mode.TheVariants as mode
@@ -32,10 +32,10 @@ use Rattle.scan_cycle.specs.Gating.{among, own, through, kept_by, is_other, pass
 use Rattle.scan_symbolic.specs.Gating.{acted, effects_of}
 use Rattle.scan_symbolic.specs.Stepping.{Going, going, keeping, gone, all_gone, IsSpot, IsWithin}
 use Rattle.scan_cycle.proofs.Feeders.{cell_is}
-use Rattle.scan_cycle.proofs.GateLaws.{left_inside, gates_inside}
+use Rattle.scan_cycle.proofs.GateLaws.{left_inside, gates_inside, all_one}
 use Rattle.scan_cycle.proofs.Sound.{placed}
 use Rattle.scan_symbolic.proofs.Acting.{HasCell}
-use Rattle.scan_cycle.proofs.Acting.{cond_true, cond_false, all_one, places}
+use Rattle.scan_cycle.proofs.Acting.{places}
 
 module _ {S : Type 0} (o : Algebra S) (p : Drawing) (k : Kept) (now n : ℕ) (f : Frame S) (taken : List S) (guard : S) where
   abbrev d_ : Diagram
@@ -76,14 +76,10 @@ module _ {S : Type 0} (o : Algebra S) (p : Drawing) (k : Kept) (now n : ℕ) (f 
     by_contact m (operand.Output inst) memory h = by_cell _ h
 
     by_step : (c : Cell) → d_.cell n g.place ≡ c → Does (cell_step n g c) c
-    by_step cell.Empty h = by_cell _ h
     by_step cell.Wire h = refl
     by_step (cell.Contact m z memory) h = by_contact m z memory h
-    by_step (cell.Coil m var memory) h = by_cell _ h
     by_step (cell.Block inst) h = either (nat_lt inst 65536) _ _ (cell.Block inst) refl (by_cell _ h)
-    by_step (cell.Lower inst linked) h = by_cell _ h
-    by_step (cell.Jump target) h = by_cell _ h
-    by_step cell.Return h = by_cell _ h
+    by_step _ h = by_cell _ h
 
     by_literal : (t : Literal) (c : Cell) → d_.cell n g.place ≡ c
         → gone o p k now (literal_step n g c t) (after links)
@@ -117,12 +113,10 @@ module _ {S : Type 0} (o : Algebra S) (p : Drawing) (k : Kept) (now n : ℕ) (ta
 
   by_coil : (a : Action) (m : CoilMode) (var : ℕ) (memory : Option ℕ) (f : Frame S) → (diagram_of p).cell n a.place ≡ cell.Coil m var memory
       → gone o p k now (step.Rare (coil_step n a m var)) (left_by f) ≡ left_by (acted o k guard links (record a { cell = cell.Coil m var memory }) f)
-  by_coil a coil.Store var memory f h = refl
   by_coil a coil.Inverse var memory f h = by_act a _ f h
-  by_coil a coil.Set var memory f h = refl
-  by_coil a coil.Reset var memory f h = refl
   by_coil a coil.Rising var memory f h = by_act a _ f h
   by_coil a coil.Falling var memory f h = by_act a _ f h
+  by_coil a _ var memory f h = refl
 
   chosen : (b : Bool) (s t : Rare) (g h : Going S) → gone o p k now (step.Rare s) g ≡ h → gone o p k now (step.Rare t) g ≡ h → gone o p k now (step.Rare (cond b s t)) g ≡ h
   chosen true s t g h i j = i
@@ -131,15 +125,10 @@ module _ {S : Type 0} (o : Algebra S) (p : Drawing) (k : Kept) (now n : ℕ) (ta
   one_action : (a : Action) (c : Cell) (f : Frame S) (ss : List Step) → (diagram_of p).cell n a.place ≡ c
       → all_gone o p k now (cons_option (action_step n a c) ss) (left_by f) ≡ all_gone o p k now ss (left_by (acted o k guard links (record a { cell = c }) f))
   unfolding all_gone
-  one_action a cell.Empty f ss h = refl
-  one_action a cell.Wire f ss h = refl
-  one_action a (cell.Contact m z memory) f ss h = refl
   one_action a (cell.Coil m var memory) f ss h =
       ap (all_gone o p k now ss) (chosen (nat_lt var 65536) (coil_step n a m var) (act_step n a) (left_by f) _ (by_coil a m var memory f h) (by_act a _ f h))
   one_action a (cell.Block inst) f ss h = ap (all_gone o p k now ss) (chosen (nat_lt inst 65536) _ (act_step n a) (left_by f) _ refl (by_act a _ f h))
-  one_action a (cell.Lower inst linked) f ss h = refl
-  one_action a (cell.Jump target) f ss h = refl
-  one_action a cell.Return f ss h = refl
+  one_action a _ f ss h = refl
 
   pub actions_gone : (more : List Action) (f : Frame S) → All (HasCell p n) more
       → all_gone o p k now (filter_map (λ a. action_step n a a.cell) more) (left_by f) ≡ left_by (effects_of o k guard links more f)
@@ -154,9 +143,6 @@ jump_is : (p : Drawing) (n : ℕ) → placed (jump_of p n) ≡ (diagram_of p).ju
 unfolding diagram_of
 jump_is p n = refl
 
-all_more : {A : Type 0} (P : A → Type 0) (x : A) (xs : List A) → P x → All P xs → All P (x ∷ xs)
-all_more P x xs h hs = All-append P (x ∷ []) xs (all_one P x h) hs
-
 -- ---- variables of contacts
 abbrev HasVar : ℕ → Literal → Type 0
 HasVar vars (literal.Is var) = var < vars
@@ -169,35 +155,20 @@ chosen_var vars var false h = (tt, tt)
 
 contact_var : (decls : Declared) (m : Mode) (z : Operand) → OperandFits decls z → HasVar (length decls.vars) (literal_on m z)
 contact_var decls mode.Plain (operand.Var var) h = (chosen_var (length decls.vars) var (nat_lt var 65536) h).0
-contact_var decls mode.Plain (operand.Output inst) h = tt
 contact_var decls mode.Negated (operand.Var var) h = (chosen_var (length decls.vars) var (nat_lt var 65536) h).1
-contact_var decls mode.Negated (operand.Output inst) h = tt
-contact_var decls mode.Rising z h = tt
-contact_var decls mode.Falling z h = tt
+contact_var decls _ _ h = tt
 
 literal_var : (decls : Declared) (c : Cell) → Fits decls c → HasVar (length decls.vars) (literal_of c)
-literal_var decls cell.Empty h = tt
-literal_var decls cell.Wire h = tt
 literal_var decls (cell.Contact m z memory) h = contact_var decls m z h
-literal_var decls (cell.Coil m var memory) h = tt
-literal_var decls (cell.Block inst) h = tt
-literal_var decls (cell.Lower inst linked) h = tt
-literal_var decls (cell.Jump target) h = tt
-literal_var decls cell.Return h = tt
+literal_var decls _ h = tt
 
 abbrev HasCoil : ℕ → Cell → Type 0
 HasCoil vars (cell.Coil m var memory) = var < vars
 HasCoil vars other = Unit {0}
 
 coil_var : (decls : Declared) (c : Cell) → Fits decls c → HasCoil (length decls.vars) c
-coil_var decls cell.Empty h = tt
-coil_var decls cell.Wire h = tt
-coil_var decls (cell.Contact m z memory) h = tt
 coil_var decls (cell.Coil m var memory) h = h.0
-coil_var decls (cell.Block inst) h = tt
-coil_var decls (cell.Lower inst linked) h = tt
-coil_var decls (cell.Jump target) h = tt
-coil_var decls cell.Return h = tt
+coil_var decls _ h = tt
 
 module _ (p : Drawing) (formed : IsWellFormed p) (rung : ℕ) where
   abbrev Knows : Gate → Type 0
@@ -207,9 +178,9 @@ module _ (p : Drawing) (formed : IsWellFormed p) (rung : ℕ) where
   unfolding gates_before
   known_before zero = All-nil _
   known_before (suc n) = elim (cases_Bool (has_gate p rung n)) [
-    | inl t ↦ subst (λ (xs : List Gate). All Knows xs) (sym (cond_true (has_gate p rung n) _ _ t))
+    | inl t ↦ subst (λ (xs : List Gate). All Knows xs) (sym (cond-true (has_gate p rung n) _ _ t))
         (All-append Knows (gates_before p rung n) _ (known_before n) (all_one Knows (gate_at p rung n) (literal_var p.decls (cell_of p rung n) (formed.fits (PLACES * rung + n)))))
-    | inr t ↦ subst (λ (xs : List Gate). All Knows xs) (sym (cond_false (has_gate p rung n) _ _ t)) (known_before n)
+    | inr t ↦ subst (λ (xs : List Gate). All Knows xs) (sym (cond-false (has_gate p rung n) _ _ t)) (known_before n)
   ]
 
   abbrev Writes : Action → Type 0
@@ -219,9 +190,9 @@ module _ (p : Drawing) (formed : IsWellFormed p) (rung : ℕ) where
   unfolding actions_before
   there_before zero = All-nil _
   there_before (suc n) = elim (cases_Bool (acts (cell_of p rung n))) [
-    | inl t ↦ subst (λ (xs : List Action). All Writes xs) (sym (cond_true (acts (cell_of p rung n)) _ _ t))
+    | inl t ↦ subst (λ (xs : List Action). All Writes xs) (sym (cond-true (acts (cell_of p rung n)) _ _ t))
         (All-append Writes (actions_before p rung n) _ (there_before n) (all_one Writes (action_at p rung n) (coil_var p.decls (cell_of p rung n) (formed.fits (PLACES * rung + n)))))
-    | inr t ↦ subst (λ (xs : List Action). All Writes xs) (sym (cond_false (acts (cell_of p rung n)) _ _ t)) (there_before n)
+    | inr t ↦ subst (λ (xs : List Action). All Writes xs) (sym (cond-false (acts (cell_of p rung n)) _ _ t)) (there_before n)
   ]
 
   pub all_there : All Writes (actions_of p rung)
@@ -256,14 +227,10 @@ module _ (rungs vars n : ℕ) (lt : n < rungs) where
     contact_within m (operand.Output inst) memory = at_cell
 
     cell_within : (c : Cell) → IsWithin rungs vars (step.Rare (cell_step n g c))
-    cell_within cell.Empty = at_cell
     cell_within cell.Wire = at_three
     cell_within (cell.Contact m z memory) = contact_within m z memory
-    cell_within (cell.Coil m var memory) = at_cell
     cell_within (cell.Block inst) = one_of (nat_lt inst 65536) _ (own_step n g) (at_three, inside.2) at_cell
-    cell_within (cell.Lower inst linked) = at_cell
-    cell_within (cell.Jump target) = at_cell
-    cell_within cell.Return = at_cell
+    cell_within _ = at_cell
 
     literal_within : (t : Literal) (c : Cell) → HasVar vars t → IsWithin rungs vars (literal_step n g c t)
     literal_within (literal.Is var) c h = (at_three, h)
@@ -273,28 +240,21 @@ module _ (rungs vars n : ℕ) (lt : n < rungs) where
   gates_within : (p : Drawing) (gs : List Gate) → All IsInside gs → All (λ g. HasVar vars g.literal) gs → All (IsWithin rungs vars) (map (gate_step p n) gs)
   gates_within p [] h known = All-nil _
   gates_within p (g ∷ gs) h known =
-      all_more (IsWithin rungs vars) (gate_step p n g) (map (gate_step p n) gs) (literal_within g (h 0 g (omega arith)) g.literal (cell_of p n g.place) (known 0 g (omega arith)))
+      All-cons (IsWithin rungs vars) (gate_step p n g) (map (gate_step p n) gs) (literal_within g (h 0 g (omega arith)) g.literal (cell_of p n g.place) (known 0 g (omega arith)))
       (gates_within p gs (λ i b less. h (suc i) b (omega (arith, less))) (λ i b less. known (suc i) b (omega (arith, less))))
 
   coil_within : (a : Action) → IsPlaced a → (m : CoilMode) (var : ℕ) → var < vars → IsWithin rungs vars (step.Rare (coil_step n a m var))
-  coil_within a h coil.Store var there = (h.1, there)
   coil_within a h coil.Inverse var there = (lt, h.0, h.1)
-  coil_within a h coil.Set var there = (h.1, there)
-  coil_within a h coil.Reset var there = (h.1, there)
   coil_within a h coil.Rising var there = (lt, h.0, h.1)
   coil_within a h coil.Falling var there = (lt, h.0, h.1)
+  coil_within a h _ var there = (h.1, there)
 
   action_within : (a : Action) → IsPlaced a → (c : Cell) → HasCoil vars c → (ss : List Step) → All (IsWithin rungs vars) ss → All (IsWithin rungs vars) (cons_option (action_step n a c) ss)
-  action_within a h cell.Empty there ss hs = hs
-  action_within a h cell.Wire there ss hs = hs
-  action_within a h (cell.Contact m z memory) there ss hs = hs
   action_within a h (cell.Coil m var memory) there ss hs =
-      all_more (IsWithin rungs vars) _ ss (one_of (nat_lt var 65536) (coil_step n a m var) (act_step n a) (coil_within a h m var there) (lt, h.0, h.1)) hs
+      All-cons (IsWithin rungs vars) _ ss (one_of (nat_lt var 65536) (coil_step n a m var) (act_step n a) (coil_within a h m var there) (lt, h.0, h.1)) hs
   action_within a h (cell.Block inst) there ss hs =
-      all_more (IsWithin rungs vars) _ ss (one_of (nat_lt inst 65536) (End a.place inst) (act_step n a) h.0 (lt, h.0, h.1)) hs
-  action_within a h (cell.Lower inst linked) there ss hs = hs
-  action_within a h (cell.Jump target) there ss hs = hs
-  action_within a h cell.Return there ss hs = hs
+      All-cons (IsWithin rungs vars) _ ss (one_of (nat_lt inst 65536) (End a.place inst) (act_step n a) h.0 (lt, h.0, h.1)) hs
+  action_within a h _ there ss hs = hs
 
   actions_within : (more : List Action) → All IsPlaced more → All (λ a. HasCoil vars a.cell) more → All (IsWithin rungs vars) (filter_map (λ a. action_step n a a.cell) more)
   actions_within [] h there = All-nil _

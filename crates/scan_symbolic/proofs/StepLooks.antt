@@ -1,6 +1,6 @@
 -- The steps of all rungs make the look, rung by rung.
 use Rattle.std.proofs.Common.{◌≡◌, ℕ, ◌+◌, ◌<◌, ◌≤◌, Bool, true, false, cond, List, [], ◌∷◌, ◌++◌, map, filter_map, length, set, get_or, zero, suc, nat_eq, nat_lt, refl, sym, ap, ap₂, subst, ◌∙◌, arith, get_or-set_other, get_or-set_same, length-set, Option, Some, None, inl, inr}
-use Rattle.std.proofs.lemmas.Bool.{cases_Bool, cases_eq}
+use Rattle.std.proofs.lemmas.Bool.{cases_Bool, cases_eq, or_parts}
 use Rattle.std.proofs.lemmas.Bool.Decides.{nat_tests}
 use Rattle.std.proofs.lemmas.List.{get_or_append_left, get_or_at, length-append}
 use Rattle.diagram_program.specs.declared.gates.Exit.{Exit}
@@ -17,7 +17,6 @@ use Rattle.scan_cycle.specs.Programs.{diagram_of, IsSound}
 use Rattle.scan_cycle.specs.Gating.{among, ran, AreLinks, AreValues}
 use Rattle.scan_symbolic.specs.Gating.{taken_by_exit}
 use Rattle.scan_symbolic.specs.Stepping.{Going, going, all_gone}
-use Rattle.scan_cycle.proofs.Feeders.{either_test}
 use Rattle.scan_cycle.proofs.GateLaws.{AreRailed, gates_inside, links_are, rails_stay}
 use Rattle.scan_cycle.proofs.Sound.{placed}
 use Rattle.scan_symbolic.proofs.Acting.{action_cells, rung_along}
@@ -65,7 +64,7 @@ not_turned : (p : Drawing) (n m : ℕ) → turns_before p n m ≡ false → (i :
 unfolding turns_before
 not_turned p n zero h i lt = absurd (omega (arith, lt))
 not_turned p n (suc m) h i lt =
-    let w = either_test (turns_before p n m) (turned_by n m (jump_of p m)) h in
+    let w = or_parts (turns_before p n m) (turned_by n m (jump_of p m)) h in
     elim (cases_eq i m) [
       | inl e ↦ ap (λ j. turned_by n j (jump_of p j)) e ∙ w.1
       | inr e ↦ not_turned p n m w.0 i (omega (arith, lt, e))
@@ -84,11 +83,11 @@ over_next n target h = grind (arith, nat_tests)
 
 passes_same : (n i : ℕ) (jump : Option (ℕ × ℕ × ℕ)) → turned_by (n + 1) i jump ≡ false → passes_over (placed jump) (n + 1) ≡ passes_over (placed jump) n
 passes_same n i None h = refl
-passes_same n i (Some (row, column, target)) h = over_next n target (either_test _ _ h).1
+passes_same n i (Some (row, column, target)) h = over_next n target (or_parts _ _ h).1
 
 passes_not : (n : ℕ) (jump : Option (ℕ × ℕ × ℕ)) → turned_by (n + 1) n jump ≡ false → passes_over (placed jump) (n + 1) ≡ false
 passes_not n None h = refl
-passes_not n (Some (row, column, target)) h = absurd (same_number (n + 1) (n + 1) (either_test _ _ h).0 refl)
+passes_not n (Some (row, column, target)) h = absurd (same_number (n + 1) (n + 1) (or_parts _ _ h).0 refl)
 
 module _ {S : Type 0} (o : Algebra S) (p : Drawing) where
   abbrev off : S

@@ -3,7 +3,7 @@ use Rattle.std.proofs.Common.{◌≡◌, ℕ, ◌+◌, ◌<◌, ◌≤◌, List,
 use Rattle.std.proofs.lemmas.List.{drop_more, drop_all}
 use Rattle.diagram_program.specs.declared.steps.Step.{Step}
 use Rattle.diagram_program.specs.declared.steps.Step.TheVariants.{Is, Not, Rare}
-use Rattle.diagram_program.specs.declared.steps.Rare.TheVariants.{Wire, Rising, Falling, Block, Own, Store, Set, Reset, End, Act, Leave, Turn}
+use Rattle.diagram_program.specs.declared.steps.Rare.TheVariants.{Wire, Rising, Falling, Block, Own, Store, Set, Reset, Act, Leave}
 use Rattle.diagram_program.specs.Program.{Drawing}
 use Rattle.scan_signals.specs.Algebra.{Algebra}
 use Rattle.scan_cycle.specs.Cells.{Frame, Kept, var_in}
@@ -21,45 +21,18 @@ module _ {S : Type 0} (o : Algebra S) (p : Drawing) (k : Kept) (now : ℕ) where
   links_length f (Rare (Falling spot var memory)) links = length-set _ spot.place _ ∙ length-set links _ _
   links_length f (Rare (Block spot below inst)) links = length-set _ spot.place _ ∙ length-set links _ _
   links_length f (Rare (Own spot below rung)) links = length-set _ spot.place _ ∙ length-set links _ _
-  links_length f (Rare (Store left var)) links = refl
-  links_length f (Rare (Set left var)) links = refl
-  links_length f (Rare (Reset left var)) links = refl
-  links_length f (Rare (End place inst)) links = refl
-  links_length f (Rare (Act rung place left)) links = refl
-  links_length f (Rare (Leave rung left)) links = refl
-  links_length f (Rare (Turn rung)) links = refl
+  links_length f _ links = refl
 
   pub values_length : (guard : S) (links : List S) (s : Step) (f : Frame S) → length (frame_after o p k guard links s f).values ≡ length f.values
-  values_length guard links (Is spot var) f = refl
-  values_length guard links (Not spot var) f = refl
-  values_length guard links (Rare (Wire spot)) f = refl
-  values_length guard links (Rare (Rising spot var memory)) f = refl
-  values_length guard links (Rare (Falling spot var memory)) f = refl
-  values_length guard links (Rare (Block spot below inst)) f = refl
-  values_length guard links (Rare (Own spot below rung)) f = refl
   values_length guard links (Rare (Store left var)) f = length-set f.values var _
   values_length guard links (Rare (Set left var)) f = length-set f.values var _
   values_length guard links (Rare (Reset left var)) f = length-set f.values var _
-  values_length guard links (Rare (End place inst)) f = refl
   values_length guard links (Rare (Act rung place left)) f = size-put_in f.values (var_in ((diagram_of p).cell rung place)) _
-  values_length guard links (Rare (Leave rung left)) f = refl
-  values_length guard links (Rare (Turn rung)) f = refl
+  values_length guard links _ f = refl
 
   pub taken_length : (guard : S) (links : List S) (s : Step) (taken : List S) → length (taken_after o guard links s taken) ≡ length taken
-  taken_length guard links (Is spot var) taken = refl
-  taken_length guard links (Not spot var) taken = refl
-  taken_length guard links (Rare (Wire spot)) taken = refl
-  taken_length guard links (Rare (Rising spot var memory)) taken = refl
-  taken_length guard links (Rare (Falling spot var memory)) taken = refl
-  taken_length guard links (Rare (Block spot below inst)) taken = refl
-  taken_length guard links (Rare (Own spot below rung)) taken = refl
-  taken_length guard links (Rare (Store left var)) taken = refl
-  taken_length guard links (Rare (Set left var)) taken = refl
-  taken_length guard links (Rare (Reset left var)) taken = refl
-  taken_length guard links (Rare (End place inst)) taken = refl
-  taken_length guard links (Rare (Act rung place left)) taken = refl
   taken_length guard links (Rare (Leave rung left)) taken = length-set taken rung _
-  taken_length guard links (Rare (Turn rung)) taken = refl
+  taken_length guard links _ taken = refl
 
   pub go_more : (ss : List Step) (i : ℕ) (s : Step) (g next : Going S) → i < length ss → next ≡ gone o p k now (get_or ss i s) g
       → all_gone o p k now (drop (i + 1) ss) next ≡ all_gone o p k now (drop i ss) g

@@ -54,13 +54,7 @@ module _ {A B : Type 0} (a : Algebra A) (b : Algebra B) (R : A → B → Type 0)
       keeping_kept xs vs l spot _ _ (from_kept a b R r _ _ _ _ now refl _ _ _ _ (among_kept xs vs l spot.left) (among_kept xs vs l below))
   links_kept f g h (Rare (Own spot below rung)) xs vs l =
       keeping_kept xs vs l spot _ _ (own_kept (diagram_of p) f g h _ _ _ _ _ (among_kept xs vs l spot.left) (among_kept xs vs l below))
-  links_kept f g h (Rare (Store left var)) xs vs l = l
-  links_kept f g h (Rare (Set left var)) xs vs l = l
-  links_kept f g h (Rare (Reset left var)) xs vs l = l
-  links_kept f g h (Rare (End place inst)) xs vs l = l
-  links_kept f g h (Rare (Act rung place left)) xs vs l = l
-  links_kept f g h (Rare (Leave rung left)) xs vs l = l
-  links_kept f g h (Rare (Turn rung)) xs vs l = l
+  links_kept f g h _ xs vs l = l
 
   storing_kept : (m : A) (n : B) → R m n → (var : ℕ) (x : A) (v : B) → R x v → (f : Frame A) (g : Frame B) → BothFrames R f g
       → BothFrames R (storing a m var x f) (storing b n var v g)
@@ -78,13 +72,6 @@ module _ {A B : Type 0} (a : Algebra A) (b : Algebra B) (R : A → B → Type 0)
 
   frame_kept : (m : A) (n : B) → R m n → (xs : List A) (vs : List B) → Both R xs vs → (s : Step) (f : Frame A) (g : Frame B) → BothFrames R f g
       → BothFrames R (frame_after a p k m xs s f) (frame_after b p k n vs s g)
-  frame_kept m n e xs vs l (Is spot var) f g h = h
-  frame_kept m n e xs vs l (Not spot var) f g h = h
-  frame_kept m n e xs vs l (Rare (Wire spot)) f g h = h
-  frame_kept m n e xs vs l (Rare (Rising spot var memory)) f g h = h
-  frame_kept m n e xs vs l (Rare (Falling spot var memory)) f g h = h
-  frame_kept m n e xs vs l (Rare (Block spot below inst)) f g h = h
-  frame_kept m n e xs vs l (Rare (Own spot below rung)) f g h = h
   frame_kept m n e xs vs l (Rare (Store left var)) f g h = storing_kept m n e var _ _ (among_kept xs vs l left) f g h
   frame_kept m n e xs vs l (Rare (Set left var)) f g h =
       storing_kept m n e var _ _ (r.choice _ _ _ _ _ _ (among_kept xs vs l left) (r.known _) (among_kept f.values g.values h.0 var)) f g h
@@ -94,25 +81,12 @@ module _ {A B : Type 0} (a : Algebra A) (b : Algebra B) (R : A → B → Type 0)
       (h.0, set_kept a b R r f.ends g.ends h.1 inst _ _ (r.choice _ _ _ _ _ _ e (among_kept xs vs l (OWN + place)) (among_kept f.ends g.ends h.1 inst)))
   frame_kept m n e xs vs l (Rare (Act rung place left)) f g h =
       acted_kept m n e xs vs l (record { cell = (diagram_of p).cell rung place; place = place; left = left; below = OFF }) f g h
-  frame_kept m n e xs vs l (Rare (Leave rung left)) f g h = h
-  frame_kept m n e xs vs l (Rare (Turn rung)) f g h = h
+  frame_kept m n e xs vs l _ f g h = h
 
   taken_kept : (m : A) (n : B) → R m n → (xs : List A) (vs : List B) → Both R xs vs → (s : Step) (ts : List A) (us : List B) → Both R ts us
       → Both R (taken_after a m xs s ts) (taken_after b n vs s us)
-  taken_kept m n e xs vs l (Is spot var) ts us t = t
-  taken_kept m n e xs vs l (Not spot var) ts us t = t
-  taken_kept m n e xs vs l (Rare (Wire spot)) ts us t = t
-  taken_kept m n e xs vs l (Rare (Rising spot var memory)) ts us t = t
-  taken_kept m n e xs vs l (Rare (Falling spot var memory)) ts us t = t
-  taken_kept m n e xs vs l (Rare (Block spot below inst)) ts us t = t
-  taken_kept m n e xs vs l (Rare (Own spot below rung)) ts us t = t
-  taken_kept m n e xs vs l (Rare (Store left var)) ts us t = t
-  taken_kept m n e xs vs l (Rare (Set left var)) ts us t = t
-  taken_kept m n e xs vs l (Rare (Reset left var)) ts us t = t
-  taken_kept m n e xs vs l (Rare (End place inst)) ts us t = t
-  taken_kept m n e xs vs l (Rare (Act rung place left)) ts us t = t
   taken_kept m n e xs vs l (Rare (Leave rung left)) ts us t = set_kept a b R r ts us t rung _ _ (r.meet _ _ _ _ e (among_kept xs vs l left))
-  taken_kept m n e xs vs l (Rare (Turn rung)) ts us t = t
+  taken_kept m n e xs vs l _ ts us t = t
 
   by_kept : (ts : List A) (us : List B) → Both R ts us → (j : ℕ) (ls : List Leap) (m : A) (n : B) → R m n → R (guard_by a ts j ls m) (guard_by b us j ls n)
   unfolding guard_by
@@ -121,20 +95,8 @@ module _ {A B : Type 0} (a : Algebra A) (b : Algebra B) (R : A → B → Type 0)
       by_kept ts us t j ls _ _ (either a b R r (nat_lt l.rung j && nat_lt j l.target) _ _ _ _ (r.meet _ _ _ _ e (r.inverse _ _ (among_kept ts us t l.rung))) e)
 
   guard_kept : (ts : List A) (us : List B) → Both R ts us → (s : Step) (m : A) (n : B) → R m n → R (guard_after a p ts s m) (guard_after b p us s n)
-  guard_kept ts us t (Is spot var) m n e = e
-  guard_kept ts us t (Not spot var) m n e = e
-  guard_kept ts us t (Rare (Wire spot)) m n e = e
-  guard_kept ts us t (Rare (Rising spot var memory)) m n e = e
-  guard_kept ts us t (Rare (Falling spot var memory)) m n e = e
-  guard_kept ts us t (Rare (Block spot below inst)) m n e = e
-  guard_kept ts us t (Rare (Own spot below rung)) m n e = e
-  guard_kept ts us t (Rare (Store left var)) m n e = e
-  guard_kept ts us t (Rare (Set left var)) m n e = e
-  guard_kept ts us t (Rare (Reset left var)) m n e = e
-  guard_kept ts us t (Rare (End place inst)) m n e = e
-  guard_kept ts us t (Rare (Act rung place left)) m n e = e
-  guard_kept ts us t (Rare (Leave rung left)) m n e = e
   guard_kept ts us t (Rare (Turn rung)) m n e = by_kept ts us t rung (leaps_below p p.rungs) _ _ (r.known _)
+  guard_kept ts us t _ m n e = e
 
   -- Two looks are related as far as they are.
   pub record BothGoing (x : Going A) (y : Going B) : Type 0 where

@@ -21,7 +21,7 @@ use scan_cycle::image::Image;
 use scan_cycle::scene::checked;
 use scan_signals::Operations;
 
-/// Takes the steps, from the given inputs and all that is stored.
+/// Takes these steps, from the given inputs and all that is stored, and leaves the values of the look in `seen`.
 fn take_steps<S: Operations>(
     base: Base<'_>,
     inputs: &[S],

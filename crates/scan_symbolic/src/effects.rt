@@ -12,7 +12,8 @@ use scan_cycle::image::Image;
 use scan_cycle::storage::Storage;
 use scan_signals::Operations;
 
-/// What one action writes, over any signal, under the guard of its rung. Out of line; see `effect`.
+/// Writes what one action writes, over any signal, under the guard of its rung. Out of line, since most actions have steps of their
+/// own.
 #[inline(never)]
 pub(crate) fn any_effect<S: Operations>(
     storage: &Storage,

@@ -1,4 +1,4 @@
-//! Looks that stand in the lanes of another look: a look over a signal of many lanes is as many looks over the signal of a lane.
+//! Looks that are read in the lanes of another look: a look over a signal of many lanes is as many looks over the signal of a lane.
 
 ghost use Rattle.std.specs.Prelude.{◌≡◌, ◌≢◌, ◌<◌, ◌+◌, ◌-◌, ◌^◌, ℕ, length, min, slice_index_or, false};
 ghost use Rattle.diagram_program.specs.Program.{Drawing};
@@ -11,7 +11,7 @@ use crate::looking::Work;
 use crate::outcome::Outcome;
 use scan_signals::Lane;
 
-/// The look that stands in a lane of another one, of which `wide` is what it left of the variable. `work` then holds what [`look`]
+/// Reads a look in a lane of another one; `wide` is what that left of the variable. `work` then holds what [`look`]
 /// leaves of this variable with the inputs in the lane, and counts one look more.
 ///
 /// The other variables keep the values that `work` holds of them. It needs no memory.

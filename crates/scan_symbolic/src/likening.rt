@@ -20,7 +20,7 @@ use scan_cycle::image::Image;
 use scan_cycle::scene::checked;
 use scan_signals::Likeness;
 
-/// Evaluates each rung, from the given inputs and all that is stored.
+/// Takes the steps of all rungs over likenesses, from the given inputs and all that is stored.
 fn liken_rungs(
     base: Base<'_>,
     inputs: &[Likeness],

@@ -50,7 +50,7 @@ impl<S> Model for Work<S> {
 }
 
 impl<S: Operations> Work<S> {
-    /// Buffers for looks at the program.
+    /// The buffers that looks at the program need.
     ///
     /// # Errors
     ///
@@ -68,7 +68,7 @@ impl<S: Operations> Work<S> {
         })
     }
 
-    /// Whether it was made for as many rungs, variables and instances as the program has.
+    /// Whether the work was made for this many rungs, variables and instances, so that it can hold a look at the program.
     pub fn fits(&self, program: &Program) -> bool
         ensures { IsTrue result ↔ HasRoom program.now self.now }
     {
@@ -93,7 +93,7 @@ impl<S: Operations> Work<S> {
         self.looks
     }
 
-    /// Takes what a look left of a variable, and counts the look.
+    /// Notes what a look that is read in a lane of another one left of a variable, and counts the look.
     pub(crate) fn take(&mut self, var: usize, value: S)
         ensures { self.new ≡ record self.old { values = slice_set self.old.values var value; looks = min (self.old.looks + 1) (2 ^ 64 - 1) } }
     {
@@ -117,7 +117,7 @@ pub(crate) fn begin<S: Operations>(
     seen.give(program.decls(), inputs);
 }
 
-/// OFF for each rung.
+/// Notes for each rung that no jump of it is taken.
 pub(crate) fn clear<S: Operations>(taken: &mut [S])
     ensures length { length taken.new ≡ length taken.old }
     ensures off { (i : ℕ) → slice_index_or taken.new i (S.algebra.known false) ≡ S.algebra.known false }
@@ -127,7 +127,7 @@ pub(crate) fn clear<S: Operations>(taken: &mut [S])
     }
 }
 
-/// Evaluates each rung.
+/// Takes the steps of all rungs, and leaves the values of the look in its work.
 fn look_rungs<S: Signal>(base: Base<'_>, seen: &mut Image<S>, taken: &mut [S], links: &mut [S])
     requires program { IsSound (diagram_of base.program.now) }
     requires formed { IsWellFormed base.program.now }

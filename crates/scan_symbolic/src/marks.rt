@@ -42,7 +42,7 @@ fn is_marked(marks: &[bool], number: usize) -> bool
 }
 
 impl Marks {
-    /// A variable is read, and nothing else.
+    /// Marks by which only the variable is read: what a slice is made for.
     pub(crate) fn for_variable(
         alloc: Global,
         program: &Program,
@@ -61,30 +61,35 @@ impl Marks {
         Ok(marks)
     }
 
+    /// Whether a later step reads the value of a variable.
     pub(crate) fn has_value(&self, var: usize) -> bool
         ensures { result ≡ marked self.now.values var }
     {
         is_marked(&self.values, var)
     }
 
+    /// Whether a later step reads the Q of an instance after its step.
     pub(crate) fn has_end(&self, inst: usize) -> bool
         ensures { result ≡ marked self.now.ends inst }
     {
         is_marked(&self.ends, inst)
     }
 
+    /// Whether a later step reads the link of this number.
     pub(crate) fn has_link(&self, place: usize) -> bool
         ensures { result ≡ marked self.now.links place }
     {
         is_marked(&self.links, place)
     }
 
+    /// Whether a later step reads the guard of its rung.
     pub(crate) fn has_guards(&self) -> bool
         ensures { result ≡ self.now.guards }
     {
         self.guards
     }
 
+    /// Notes that a step reads the value of a variable.
     pub(crate) fn read_value(&mut self, var: usize)
         ensures { self.new ≡ record self.old { values = mark self.old.values var } }
     {
@@ -93,6 +98,7 @@ impl Marks {
         }
     }
 
+    /// Notes that a step reads the Q of an instance after its step.
     pub(crate) fn read_end(&mut self, inst: usize)
         ensures { self.new ≡ record self.old { ends = mark self.old.ends inst } }
     {
@@ -101,6 +107,7 @@ impl Marks {
         }
     }
 
+    /// Notes that a step reads the link of this number.
     pub(crate) fn read_link(&mut self, place: usize)
         ensures { self.new ≡ record self.old { links = mark self.old.links place } }
     {
@@ -109,13 +116,14 @@ impl Marks {
         }
     }
 
+    /// Notes that a step reads the guard of its rung.
     pub(crate) fn read_guards(&mut self)
         ensures { self.new ≡ record self.old { guards = true } }
     {
         self.guards = true;
     }
 
-    /// The link is written, so what it was before isn't read.
+    /// Notes that a step writes a link, so that no step before it is kept for this link.
     pub(crate) fn write_link(&mut self, place: usize)
         ensures { self.new ≡ record self.old { links = unmark self.old.links place } }
     {

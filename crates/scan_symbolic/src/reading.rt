@@ -12,6 +12,7 @@ use diagram_program::steps::{Rare, Spot, Step};
 use diagram_program::{Cell, Operand, Program};
 use scan_cycle::scene::cell;
 
+/// Whether a step that isn't a plain contact writes something that a step after it reads.
 fn keeps_rare(program: &Program, marks: &Marks, rare: Rare) -> bool
     requires { IsWithin program.now.rungs (length program.now.decls.vars) (Step.Rare rare) }
     ensures { result ≡ keeps program.now marks.now (Step.Rare rare) }
@@ -53,7 +54,7 @@ pub(crate) fn keeps(program: &Program, marks: &Marks, step: Step) -> bool
     }
 }
 
-/// The gate sets its place, and looks at its links.
+/// Marks what a gate reads, its left link and the OR of the rows above; the link that it writes is no longer marked.
 fn read_gate(marks: &mut Marks, spot: Spot)
     ensures { marks.new ≡ record marks.old { links = by_gate spot marks.old.links } }
 {
@@ -62,7 +63,7 @@ fn read_gate(marks: &mut Marks, spot: Spot)
     marks.read_link(spot.other as usize);
 }
 
-/// The gate keeps besides what its cell alone lets through.
+/// The same for a gate that also keeps what its cell alone lets through.
 fn read_own(marks: &mut Marks, spot: Spot)
     ensures { marks.new ≡ record marks.old { links = by_own spot marks.old.links } }
 {
@@ -72,6 +73,7 @@ fn read_own(marks: &mut Marks, spot: Spot)
     marks.read_link(spot.other as usize);
 }
 
+/// Marks what a contact reads: its variable, or the Q of its instance.
 fn read_operand(marks: &mut Marks, operand: Operand)
     ensures { marks.new ≡ record marks.old { values = operand_values operand marks.old.values; ends = operand_ends operand marks.old.ends } }
 {
@@ -81,22 +83,17 @@ fn read_operand(marks: &mut Marks, operand: Operand)
     }
 }
 
+/// Marks what a cell reads besides links: only contacts read something.
 fn read_cell(marks: &mut Marks, cell: Cell)
     ensures { marks.new ≡ record marks.old { values = cell_values cell marks.old.values; ends = cell_ends cell marks.old.ends } }
 {
-    match cell {
-        Cell::Contact { operand, .. } => read_operand(marks, operand),
-        Cell::Empty
-        | Cell::Wire
-        | Cell::Coil { .. }
-        | Cell::Block { .. }
-        | Cell::Lower { .. }
-        | Cell::Jump { .. }
-        | Cell::Return => {}
+    match cell.contact() {
+        Some((_, operand)) => read_operand(marks, operand),
+        None => {}
     }
 }
 
-/// A step that writes looks at its link, and at its guard.
+/// Marks what a step reads that writes a variable or a Q: its link, and the guard of its rung.
 fn read_write(marks: &mut Marks, place: usize)
     ensures { marks.new ≡ record marks.old { links = mark marks.old.links place; guards = true } }
 {
@@ -104,6 +101,7 @@ fn read_write(marks: &mut Marks, place: usize)
     marks.read_guards();
 }
 
+/// Marks what a step reads that isn't a plain contact.
 fn read_rare(program: &Program, marks: &mut Marks, rare: Rare)
     requires { IsWithin program.now.rungs (length program.now.decls.vars) (Step.Rare rare) }
     ensures { marks.new ≡ reads program.now (Step.Rare rare) marks.old }

@@ -46,7 +46,8 @@ impl<'a> Model for Slice<'a> {
     ghost invariant = { λ s. s.steps.items ≡ slice_of s.program.now s.var };
 }
 
-/// Those of some steps that are kept, in their order. `marks` are of what is read after them, and then of what is read before.
+/// The steps that matter, in their order, found from the last one to the first. `marks` are those of what is read after these
+/// steps, and become those of what is read before.
 fn kept_steps(
     alloc: Global,
     program: &Program,

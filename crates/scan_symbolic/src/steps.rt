@@ -31,8 +31,8 @@ pub(crate) struct Base<'a> {
     pub now: u64,
 }
 
-/// Keeps what a gate lets through, which other gates see at its place.
-fn pass<S: Operations>(links: &mut [S], spot: Spot, through: S)
+/// Keeps the link that a gate gives: what it lets through, OR what comes from the rows above.
+fn pass_on<S: Operations>(links: &mut [S], spot: Spot, through: S)
     requires links { length links.old ≡ LINKS }
     requires spot { IsSpot spot }
     ensures { links.new ≡ passing S.algebra links.old spot through }
@@ -40,7 +40,7 @@ fn pass<S: Operations>(links: &mut [S], spot: Spot, through: S)
     links[spot.place as usize] = through.or(links[spot.other as usize]);
 }
 
-/// Keeps besides what its cell alone lets through.
+/// The same for a gate whose own signal is read again: also keeps what its cell alone lets through.
 fn keep<S: Operations>(links: &mut [S], spot: Spot, through: S)
     requires links { length links.old ≡ LINKS }
     requires spot { IsSpot spot }
@@ -51,7 +51,7 @@ fn keep<S: Operations>(links: &mut [S], spot: Spot, through: S)
     links[spot.place as usize] = all;
 }
 
-/// The gate of a contact on a variable.
+/// The gate of a contact on a variable: its left link AND the variable.
 #[inline(always)]
 fn normally_open<S: Operations>(seen: &Image<S>, spot: Spot, var: u16, links: &mut [S])
     requires links { length links.old ≡ LINKS }
@@ -60,10 +60,10 @@ fn normally_open<S: Operations>(seen: &Image<S>, spot: Spot, var: u16, links: &m
     ensures { links.new ≡ passing S.algebra links.old spot (S.algebra.meet (among S.algebra links.old spot.left) (among S.algebra seen.now.values var)) }
 {
     let through = links[spot.left as usize].and(seen.values[var as usize]);
-    pass(links, spot, through);
+    pass_on(links, spot, through);
 }
 
-/// The gate of a negated contact.
+/// The gate of a negated contact: its left link AND NOT the variable.
 #[inline(always)]
 fn normally_closed<S: Operations>(seen: &Image<S>, spot: Spot, var: u16, links: &mut [S])
     requires links { length links.old ≡ LINKS }
@@ -72,9 +72,10 @@ fn normally_closed<S: Operations>(seen: &Image<S>, spot: Spot, var: u16, links: 
     ensures { links.new ≡ passing S.algebra links.old spot (S.algebra.meet (among S.algebra links.old spot.left) (S.algebra.inverse (among S.algebra seen.now.values var))) }
 {
     let through = links[spot.left as usize].and(seen.values[var as usize].not());
-    pass(links, spot, through);
+    pass_on(links, spot, through);
 }
 
+/// The gate of a wire: its left link as it is, kept as what its cell alone lets through.
 fn wire<S: Operations>(spot: Spot, links: &mut [S])
     requires links { length links.old ≡ LINKS }
     requires spot { IsSpot spot }
@@ -129,7 +130,7 @@ fn block<S: Operations>(base: Base<'_>, spot: Spot, below: u8, inst: usize, link
     );
 }
 
-/// Any gate, as its cell says.
+/// The gate of any other cell, as the cell says.
 #[inline(never)]
 fn own<S: Operations>(
     base: Base<'_>,
@@ -159,7 +160,7 @@ fn own<S: Operations>(
     keep(links, spot, through);
 }
 
-/// Writes what a coil would write to a variable.
+/// Writes a coil's new value to its variable: the choice, by the guard of its rung, between the new and the old one.
 fn store<S: Operations>(seen: &mut Image<S>, guard: S, var: u16, new: S)
     requires { var < length seen.old.values }
     ensures { seen.new ≡ storing S.algebra guard var new seen.old }
@@ -168,7 +169,7 @@ fn store<S: Operations>(seen: &mut Image<S>, guard: S, var: u16, new: S)
     seen.values[var as usize] = S::choose(guard, new, old);
 }
 
-/// What any cell writes.
+/// Writes what any other coil or block writes.
 #[inline(never)]
 fn run_action<S: Operations>(
     base: Base<'_>,
@@ -196,7 +197,7 @@ fn run_action<S: Operations>(
     any_effect(base.storage, guard, links, &action, seen);
 }
 
-/// A coil that writes this value where its link is ON.
+/// Writes what a coil `(S)` or `(R)` writes: its value, where its link is ON.
 fn latch<S: Operations>(seen: &mut Image<S>, guard: S, var: u16, link: S, on: bool)
     requires { var < length seen.old.values }
     ensures { seen.new ≡ storing S.algebra guard var (S.algebra.choice link (S.algebra.known on) (among S.algebra seen.old.values var)) seen.old }
@@ -205,7 +206,7 @@ fn latch<S: Operations>(seen: &mut Image<S>, guard: S, var: u16, link: S, on: bo
     store(seen, guard, var, S::choose(link, S::known(on), old));
 }
 
-/// A block writes its Q.
+/// Writes the Q of a block after its step, under the guard of its rung.
 fn end<S: Operations>(seen: &mut Image<S>, guard: S, inst: u16, new: S)
     ensures { seen.new ≡ frame seen.old.values (slice_set seen.old.ends inst (S.algebra.choice guard new (among S.algebra seen.old.ends inst))) }
 {
@@ -213,7 +214,8 @@ fn end<S: Operations>(seen: &mut Image<S>, guard: S, inst: u16, new: S)
     seen.put_end(inst as usize, S::choose(guard, new, old));
 }
 
-/// The guard so far, AND NOT that the jump is taken, where it passes over the rung.
+/// The guard of a rung with one more jump considered: the guard so far, AND NOT that this jump is taken, if it passes over the
+/// rung.
 fn under<S: Operations>(leap: Leap, taken: &[S], rung: usize, all: S) -> S
     ensures { result ≡ (if nat_lt leap.rung rung && nat_lt rung leap.target
         then S.algebra.meet all (S.algebra.inverse (among S.algebra taken.now leap.rung)) else all) }
@@ -225,7 +227,7 @@ fn under<S: Operations>(leap: Leap, taken: &[S], rung: usize, all: S) -> S
     }
 }
 
-/// The AND, over the earlier rungs with a jump past the rung, of NOT that this jump is taken.
+/// The guard of a rung: the AND, over the earlier rungs with a jump past it, of NOT that this jump is taken.
 #[tactic(auto, using(crate::proofs::Exits::guard_step))]
 pub fn guard_by<S: Operations>(leaps: &[Leap], taken: &[S], rung: usize) -> S
     ensures { result ≡ guard_by S.algebra taken.now rung leaps.now (S.algebra.known true) }

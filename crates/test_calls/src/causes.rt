@@ -25,6 +25,7 @@ struct Calls {
     rungs: usize,
 }
 
+/// Calls a cursor three times, past its only cause, and returns its counts.
 fn after_three_calls(causes: &mut Causes) -> Calls {
     let looks_before = causes.looks();
     let first = causes.next();
@@ -41,7 +42,7 @@ fn after_three_calls(causes: &mut Causes) -> Calls {
     }
 }
 
-/// Calls a cursor over the causes of the motor three times.
+/// Calls a cursor three times, over the causes of the motor from a state.
 fn called(alloc: Global, program: &Program, state: &State) -> Result<Calls, Memory> {
     if !state.fits(program) {
         return Err(Memory);
@@ -53,11 +54,13 @@ fn called(alloc: Global, program: &Program, state: &State) -> Result<Calls, Memo
     }
 }
 
+/// Calls a cursor three times, over the causes of the motor from its fresh state.
 fn called_three_times(alloc: Global) -> Result<Calls, Memory> {
     let motor = begun(alloc, MOTOR)?;
     called(alloc, &motor.program, &motor.state)
 }
 
+/// Of Start and Stop only number 2 is a cause: one look over words answers all four numbers.
 #[test]
 fn a_cursor_counts_its_looks(rt: HostRuntime) {
     let wanted = Calls {

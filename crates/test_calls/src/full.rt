@@ -33,7 +33,7 @@ const CALLS: [(Call, &[u8]); 4] = [
     ),
 ];
 
-/// Whether a list of causes was written whole.
+/// Lists the causes of the motor, and says whether their text was written whole.
 fn lists(
     alloc: Global,
     program: &Program,
@@ -65,7 +65,7 @@ fn tells(program: &Program, state: &State, writer: &mut CountedWriter<Narrow>) -
     state.fits(program) && write_state(program, state, writer).is_ok()
 }
 
-/// Whether the call wrote all of its text.
+/// Makes a call, and says whether it wrote all of its text.
 fn writes(
     alloc: Global,
     call: Call,
@@ -89,7 +89,7 @@ struct Room {
     end: End,
 }
 
-/// Whether the call writes as much of its text as there is room for, and fails where that isn't all.
+/// Whether a call writes as much of its text as there is room for, and fails if that isn't all.
 fn cuts(alloc: Global, call: Call, text: &[u8], room: Room, motor: &mut Fresh) -> bool {
     let mut writer = with_room(alloc, room.bytes, room.step, room.end);
     let is_whole = writes(alloc, call, &motor.program, &mut motor.state, &mut writer);
@@ -97,13 +97,13 @@ fn cuts(alloc: Global, call: Call, text: &[u8], room: Room, motor: &mut Fresh) -
     is_whole == (text.len() <= room.bytes) && writer.into_inner().bytes.as_slice() == due
 }
 
-/// Whether it does so before the first scan.
+/// Whether a call writes as much of its text as there is room for, and fails if that isn't all; from the fresh state of the motor.
 fn is_cut(alloc: Global, call: Call, text: &[u8], room: Room) -> Result<bool, Memory> {
     let mut motor = begun(alloc, MOTOR)?;
     Ok(cuts(alloc, call, text, room, &mut motor))
 }
 
-/// The first size of a writer with which the call doesn't do so.
+/// The first size of a writer with which a call doesn't write as much as there is room for.
 fn wrong_room(
     alloc: Global,
     call: Call,
@@ -121,7 +121,7 @@ fn wrong_room(
     Ok(if is_right { None } else { Some(bytes) })
 }
 
-/// The same over all that a writer can do when it is full.
+/// The same for each way in which a full writer can end: the first one that is wrong, with its size.
 fn wrong_end(
     alloc: Global,
     call: Call,
@@ -136,7 +136,7 @@ fn wrong_end(
     Ok(None)
 }
 
-/// The number of the first call that doesn't write what there is room for, by so many bytes a call of the writer.
+/// The number of the first call that doesn't write what there is room for, with a writer that takes `step` bytes a call.
 fn wrong_call(alloc: Global, step: usize) -> Result<Option<usize>, Memory> {
     for (number, (call, text)) in CALLS.iter().enumerate() {
         if wrong_end(alloc, *call, text, step)?.is_some() {
@@ -146,13 +146,14 @@ fn wrong_call(alloc: Global, step: usize) -> Result<Option<usize>, Memory> {
     Ok(None)
 }
 
+/// Byte by byte, and in pieces as they come.
 #[test]
 fn a_full_writer_has_a_prefix_of_each_text(rt: HostRuntime) {
     let wrong = [wrong_call(rt.alloc(), 1), wrong_call(rt.alloc(), 1000)];
     assert!(rt; wrong == [Ok(None), Ok(None)]);
 }
 
-/// The moment of the state after a simulation whose writer takes so many bytes, and the value of Motor.
+/// The moment of the state after a simulation whose writer takes this many bytes, and the value of Motor.
 fn stopped(alloc: Global, bytes: usize, motor: &mut Fresh) -> Option<(u64, bool)> {
     let mut writer = with_room(alloc, bytes, 1000, End::Fails);
     if traces(alloc, &motor.program, &mut motor.state, &mut writer) {
@@ -161,6 +162,7 @@ fn stopped(alloc: Global, bytes: usize, motor: &mut Fresh) -> Option<(u64, bool)
     told(&motor.state, &motor.program)
 }
 
+/// What a simulation of the motor leaves, from the fresh state, whose writer takes this many bytes.
 fn left_by(alloc: Global, bytes: usize) -> Result<Option<(u64, bool)>, Memory> {
     let mut motor = begun(alloc, MOTOR)?;
     Ok(stopped(alloc, bytes, &mut motor))

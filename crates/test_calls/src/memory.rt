@@ -22,7 +22,7 @@ pub enum End {
 /// All that a writer can do when it is full.
 pub const ENDS: [End; 4] = [End::Fails, End::Interrupts, End::TakesNone, End::FailsOnce];
 
-/// A writer that takes so many bytes, at most `step` a call, and is then full.
+/// A writer that takes `room` bytes, at most `step` a call, and is then full.
 #[derive(Drop)]
 pub struct Narrow {
     pub bytes: Vec<u8>,
@@ -32,7 +32,7 @@ pub struct Narrow {
     pub calls: usize,
 }
 
-/// A writer that takes so many bytes.
+/// A writer that takes `room` bytes, at most `step` a call, and then ends as chosen.
 pub fn with_room(alloc: Global, room: usize, step: usize, end: End) -> CountedWriter<Narrow> {
     CountedWriter::new(Narrow {
         bytes: Vec::new(alloc),
@@ -51,6 +51,7 @@ pub fn without_end(alloc: Global) -> CountedWriter<Narrow> {
 impl Write for Narrow {
     ghost contents = { λ w. Some w.bytes.items };
 
+    /// Takes as many bytes as there is room for, at most `step`; a full writer ends as it was chosen to.
     fn write(&mut self, buf: &[u8]) -> io::Result<usize> {
         self.calls = self.calls.wrapping_add(1);
         let count = buf.len().min(self.room).min(self.step);
@@ -70,6 +71,7 @@ impl Write for Narrow {
         Ok(count)
     }
 
+    /// Nothing is kept back.
     fn flush(&mut self) -> io::Result<()> {
         Ok(())
     }
@@ -85,6 +87,7 @@ pub struct Hashes {
 }
 
 impl Read for Hashes {
+    /// Gives at most `step` bytes `#`, and fails at the chosen call.
     fn read(&mut self, buf: &mut [u8]) -> io::Result<usize> {
         self.calls = self.calls.wrapping_add(1);
         if self.calls == self.failing {

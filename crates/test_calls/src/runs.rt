@@ -19,11 +19,13 @@ const THREE_VALUES: [Look; 4] = [
     (RETURN, [Tri::On, Tri::Unsure], 2, Tri::On),
 ];
 
+/// Where a jump or return may be taken, Y may be what it was; where it is taken, Y is.
 #[test]
 fn looks_through_jumps_that_may_be_taken(rt: HostRuntime) {
     assert_eq!(rt; wrong_row(rt.alloc(), THREE_VALUES.as_slice()), Ok(None));
 }
 
+/// At each place that Skip is ON at, Y stays ON; at the others it is A.
 #[test]
 fn looks_over_words_through_a_jump(rt: HostRuntime) {
     let inputs = [Word64(12), Word64(10)];

@@ -17,6 +17,7 @@ pub(crate) const COIL: usize = 2;
 const EITHER: &[u8] =
     b"VAR\n  A AT %IX0 : BOOL;\n  Y AT %QX0 : BOOL;\nEND_VAR\n\n|     A           Y\n|----| |----+----( )----\n|     A     |\n|----|/|----+\n";
 
+/// The program of a text that breaks no rule.
 pub(crate) fn program(alloc: Global, text: &[u8]) -> Result<Program, Memory> {
     match read_program(alloc, text) {
         Ok(program) => Ok(program),
@@ -80,7 +81,7 @@ pub(crate) fn told(state: &State, program: &Program) -> Option<(u64, bool)> {
     }
 }
 
-/// What is told of a copy of a state that a scan turns on, and then of the state.
+/// What a scan that turns the motor ON leaves of a copy of a state, and of the state.
 fn copy_and_original(
     alloc: Global,
     program: &Program,
@@ -96,17 +97,20 @@ fn copy_and_original(
     Ok([copied, told(state, program)])
 }
 
+/// What a scan leaves of a copy of the motor's fresh state, and of that state.
 fn scanned_copy(alloc: Global) -> Result<[Option<(u64, bool)>; 2], Memory> {
     let motor = begun(alloc, MOTOR)?;
     copy_and_original(alloc, &motor.program, &motor.state)
 }
 
+/// The copy is ON at 10 ms, and the state OFF at 0 ms.
 #[test]
 fn a_scan_changes_a_copy_alone(rt: HostRuntime) {
     let wanted = [Some((10, true)), Some((0, false))];
     assert!(rt; scanned_copy(rt.alloc()) == Ok(wanted));
 }
 
+/// Start without Stop turns the motor ON.
 #[test]
 fn looks_over_truth_values(rt: HostRuntime) {
     let on = looked(rt.alloc(), MOTOR, [true, false].as_slice(), COIL);
@@ -133,11 +137,13 @@ const THREE_VALUES: [Look; 4] = [
     (EITHER, [Tri::Unsure, Tri::Off], 1, Tri::Unsure),
 ];
 
+/// What is open stays open only where it matters, or where no single route shows the value.
 #[test]
 fn looks_over_three_values(rt: HostRuntime) {
     assert_eq!(rt; wrong_row(rt.alloc(), THREE_VALUES.as_slice()), Ok(None));
 }
 
+/// Of the four combinations in a word, one turns the motor ON.
 #[test]
 fn looks_over_words(rt: HostRuntime) {
     let inputs = [Word64(12), Word64(10)];

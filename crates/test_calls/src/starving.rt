@@ -35,12 +35,14 @@ struct Fixed {
 }
 
 impl Fixed {
+    /// The bytes that were written.
     fn taken(&self) -> &[u8] {
         &self.bytes[..self.len.min(ROOM)]
     }
 }
 
 impl Write for Fixed {
+    /// Takes a piece as a whole, or fails where it has no room.
     fn write(&mut self, buf: &[u8]) -> io::Result<usize> {
         self.calls = self.calls.wrapping_add(1);
         let start = self.len.min(ROOM);
@@ -52,11 +54,13 @@ impl Write for Fixed {
         Ok(buf.len())
     }
 
+    /// Nothing is kept back.
     fn flush(&mut self) -> io::Result<()> {
         Ok(())
     }
 }
 
+/// A writer to which nothing was written.
 fn empty() -> CountedWriter<Fixed> {
     CountedWriter::new(Fixed {
         bytes: [0; ROOM],
@@ -97,11 +101,12 @@ enum Outcome {
     Wrong,
 }
 
+/// How a call ended that was done, by whether its result is the right one.
 fn right(is: bool) -> Outcome {
     if is { Outcome::Right } else { Outcome::Wrong }
 }
 
-/// Whether this is the text of the state.
+/// Whether the text of a state is this one.
 fn is_told(program: &Program, state: &State, text: &[u8]) -> bool {
     if !state.fits(program) {
         return false;
@@ -113,6 +118,7 @@ fn is_told(program: &Program, state: &State, text: &[u8]) -> bool {
     writer.into_inner().taken() == text
 }
 
+/// Copies a state and compares the text of the copy.
 fn copying_a_state(alloc: Global, program: &Program, state: &State) -> Outcome {
     match state.copy(alloc) {
         Ok(copy) => right(is_told(program, &copy, EDGES_FRESH)),
@@ -128,6 +134,7 @@ fn making_a_work(alloc: Global, program: &Program, state: &State) -> Outcome {
     }
 }
 
+/// The same over three values.
 fn making_a_work_over_three_values(alloc: Global, program: &Program, state: &State) -> Outcome {
     match look_at(alloc, program, state, [Tri::On].as_slice(), 0, 1) {
         Ok(lamp) => right(lamp == Some(Tri::On)),
@@ -135,6 +142,7 @@ fn making_a_work_over_three_values(alloc: Global, program: &Program, state: &Sta
     }
 }
 
+/// The same over words, A being ON at some places.
 fn making_a_work_over_words(alloc: Global, program: &Program, state: &State) -> Outcome {
     match look_at(alloc, program, state, [Word64(10)].as_slice(), 0, 1) {
         Ok(lamp) => right(lamp == Some(Word64(10))),
@@ -158,7 +166,7 @@ fn reading_a_text(alloc: Global) -> Outcome {
     }
 }
 
-/// How many rows of a trace stand in a text, behind its header.
+/// How many rows of a trace a text has, after its header.
 fn rows_in(text: &[u8]) -> usize {
     let mut lines = 0usize;
     for byte in text {
@@ -174,7 +182,7 @@ fn told(state: &State) -> (u64, bool) {
     (state.moment(), state.value_or_off(0))
 }
 
-/// What is told of the state after so many records, of which none leaves it as it was.
+/// The moment and A after this many records of the stimulus, each of which changes the state.
 fn after(rows: usize, before: (u64, bool)) -> (u64, bool) {
     match rows {
         0 => before,
@@ -208,7 +216,7 @@ struct Edges<'a> {
     fresh: &'a State,
 }
 
-/// Makes a call.
+/// Makes one of the calls, and says how it ended.
 fn ended(alloc: Global, call: Call, edges: Edges<'_>, state: &mut State) -> Outcome {
     let Edges { program, fresh } = edges;
     match call {
@@ -221,7 +229,7 @@ fn ended(alloc: Global, call: Call, edges: Edges<'_>, state: &mut State) -> Outc
     }
 }
 
-/// Takes blocks of a size while there are any.
+/// Takes blocks of this size until there is no more memory for one.
 fn take_all(alloc: Global, blocks: &mut Vec<Vec<u8>>, size: usize) {
     for _ in 0..100_000 {
         let Ok(block) = Vec::with_capacity(alloc, size) else {
@@ -240,7 +248,7 @@ fn take_small(alloc: Global, blocks: &mut Vec<Vec<u8>>) {
     }
 }
 
-/// Takes all the memory that there is.
+/// Takes all the memory that there is, in smaller and smaller blocks.
 fn starve(alloc: Global, blocks: &mut Vec<Vec<u8>>) {
     let mut size = 1usize << 34;
     for _ in 0..35 {
@@ -293,7 +301,8 @@ fn refusals(
 /// How a call ends with all memory, how it ends with less and less of it, and whether it was refused before.
 type Ends = (Outcome, Outcome, bool);
 
-/// The first call takes the stack that it needs, of which there is none left afterwards.
+/// Makes a call once with all memory, which takes the stack that it needs and that isn't there later, and then with more and more
+/// memory from next to none. Returns how the first and the last call ended, and whether some were refused.
 fn ends(
     alloc: Global,
     call: Call,
@@ -306,7 +315,8 @@ fn ends(
     Ok((whole, last, 0 < count))
 }
 
-/// What one function owns is let go at each of its exits, which takes long to prove; so each owns one thing.
+/// The same with copies of the fresh state. Each of these functions owns one thing, since what it owns is let go at each exit,
+/// which takes long to prove.
 fn starved_after(
     alloc: Global,
     call: Call,
@@ -320,11 +330,13 @@ fn starved_after(
     }
 }
 
+/// The same with a copy of the fresh state for the first call.
 fn starved_over(alloc: Global, call: Call, edges: Edges<'_>) -> Result<Ends, Memory> {
     let mut first = edges.fresh.copy(alloc)?;
     starved_after(alloc, call, edges, &mut first)
 }
 
+/// The same for the program with the edges.
 fn starved(alloc: Global, call: Call) -> Result<Ends, Memory> {
     let begun = begun(alloc, EDGES)?;
     let edges = Edges {
@@ -355,6 +367,7 @@ fn wrong_call(alloc: Global) -> Option<usize> {
     None
 }
 
+/// Each call is refused in the first runs, and done right in the last one.
 #[test]
 fn a_refusal_is_named_until_memory_suffices(rt: HostRuntime) {
     assert_eq!(rt; wrong_call(rt.alloc()), None);

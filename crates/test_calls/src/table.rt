@@ -18,12 +18,14 @@ struct Table {
     longest: u64,
 }
 
+/// Whether all entries are chosen.
 fn all_chosen(entries: &[bool]) -> bool
     ensures { result ≡ list_all (λ b. b) entries.now }
 {
     entries.iter().all(|chosen| *chosen)
 }
 
+/// Whether no entry is chosen.
 fn none_chosen(entries: &[bool]) -> bool
     ensures { result ≡ list_all not entries.now }
 {
@@ -38,7 +40,7 @@ fn size(height: u32) -> usize
     1 << (1 + height)
 }
 
-/// What the entries of a prefix are, where they are alike.
+/// Whether all entries of a prefix are chosen, or none, if they are alike.
 fn common_part(chosen: &[bool], height: u32, base: u64) -> Option<bool>
     requires height { height ≤ 3 }
     requires within { base + 2 ^ (1 + height) ≤ length chosen.now }
@@ -67,6 +69,7 @@ fn pair(chosen: &[bool], base: u64) -> u64
 }
 
 impl Table {
+    /// How many looks were made.
     fn looks(&self) -> u64 {
         self.shorter.wrapping_add(self.longest)
     }
@@ -90,17 +93,20 @@ impl Tree for Table {
 
     ghost keeps_on = { λ s t u h k. k ∙ h };
 
+    /// Counts a look, and answers where the entries below the prefix are alike.
     fn decide(&mut self, height: u32, base: u64) -> Option<bool> {
         self.shorter += 1;
         common_part(&self.chosen, height, base)
     }
 
+    /// Counts a look, and returns the two entries of a longest prefix.
     fn word(&mut self, base: u64) -> u64 {
         self.longest += 1;
         pair(&self.chosen, base)
     }
 }
 
+/// The table that the cases search, at which no look was made yet.
 fn sixteen(alloc: Global, first: u64) -> Result<Table, AllocError>
     ensures first { IfOk result (λ t. t.first ≡ first) }
     ensures looks { IfOk result (λ t. t.shorter + t.longest ≡ 0) }
@@ -155,6 +161,7 @@ const CASES: [(u64, &[(u64, u64)], u64); 5] = [
     (16, &[], 0),
 ];
 
+/// The numbers that are found, and the looks they took, from each first number.
 #[test]
 fn a_table_is_searched(rt: HostRuntime) {
     for (first, wanted, looks) in CASES {

@@ -4,7 +4,7 @@ use crate::memory::Hashes;
 use ladder_sim::{CountedReader, ReadFault, read_text};
 use std::alloc::Global;
 
-/// How reading a text of so many bytes ends, and how often the reader was called.
+/// How reading a text of `left` bytes ends, and how often the reader was called.
 fn read(
     alloc: Global,
     left: usize,
@@ -41,6 +41,7 @@ fn fails_at_each_read(rt: HostRuntime) {
     }
 }
 
+/// One call more than the limit needs shows that the text is too long.
 #[test]
 fn reads_an_endless_reader_no_further_than_the_limit(rt: HostRuntime) {
     for (step, limit, calls) in [(1, 100, 101), (7, 100, 15), (20_000, 0, 1)] {

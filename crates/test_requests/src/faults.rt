@@ -87,7 +87,7 @@ fn wrote(
     (fails, has_prefix)
 }
 
-/// Whether a writer that takes so many bytes has as much of the line, with each way to be full, and in pieces of one byte and of many.
+/// Whether a writer that takes `room` bytes has as much of the line, with each way to be full, and in pieces of one byte and of many.
 fn is_cut(alloc: Global, fault: &ToolFault, line: &[u8], room: usize) -> bool {
     let prefix = &line[..room.min(line.len())];
     let wanted = (room < line.len(), true);
@@ -101,6 +101,7 @@ fn is_cut(alloc: Global, fault: &ToolFault, line: &[u8], room: usize) -> bool {
     true
 }
 
+/// Each line, over writers with room for each part of it.
 #[test]
 fn leaves_a_prefix_where_the_writer_fails(rt: HostRuntime) {
     for (number, (fault, line)) in LINES.iter().enumerate() {

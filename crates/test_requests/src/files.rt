@@ -40,6 +40,7 @@ const FAULTS: [Row; 9] = [
     ([(8, 0), (8, 0), (STIMULUS, 0)], b"fault V2 line 1\n"),
 ];
 
+/// The readers of the three texts of a simulation.
 fn readers(texts: [Text; 3]) -> Readers<CountedReader<Hashes>> {
     let [program, state, stimulus] = texts;
     Readers {
@@ -54,6 +55,7 @@ fn readers(texts: [Text; 3]) -> Readers<CountedReader<Hashes>> {
 /// has this line.
 type Left = (u8, [bool; 2], bool);
 
+/// Performs a request over these readers, and returns what it left.
 fn performed(
     alloc: Global,
     asked: &CommandLine,
@@ -86,6 +88,7 @@ fn simulation(alloc: Global) -> Result<CommandLine, AllocError> {
     })
 }
 
+/// What a simulation over these texts leaves.
 fn left(alloc: Global, texts: [Text; 3], line: &[u8]) -> Result<Left, AllocError> {
     let asked = simulation(alloc)?;
     let mut readers = readers(texts);
@@ -102,6 +105,7 @@ fn wrong_row(alloc: Global, rows: &[Row]) -> Result<Option<usize>, AllocError> {
     Ok(None)
 }
 
+/// Of several texts that can't be read the first one is named, and no output is called.
 #[test]
 fn the_first_text_that_cannot_be_read_is_named(rt: HostRuntime) {
     assert_eq!(rt; wrong_row(rt.alloc(), FAULTS.as_slice()), Ok(None));

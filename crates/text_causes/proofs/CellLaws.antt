@@ -95,11 +95,8 @@ alike (suc k) v d w e hv hd =
     ∙ ap (λ t. cell (bit_at e k) (bit_at w k) ∷ t) (alike k v d w e (λ j less. hv j (omega (arith, less))) (λ j less. hd j (omega (arith, less))))
 
 low : (n i : ℕ) → i < 4 → n / 2 ^ i % 2 ≡ n % 16 / 2 ^ i % 2
-low n zero less = omega arith
-low n (suc zero) less = omega arith
-low n (suc (suc zero)) less = omega arith
-low n (suc (suc (suc zero))) less = omega arith
 low n (suc (suc (suc (suc i)))) less = absurd (omega (arith, less))
+low n _ less = omega arith
 
 -- the text of the four cells from a place on
 four_is : (p i : ℕ) (g : Group) → i ≡ 16 * (g.dashes / 2 ^ p % 16) + g.value / 2 ^ p % 16

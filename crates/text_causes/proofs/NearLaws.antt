@@ -11,13 +11,13 @@ use borrow.Rule.Slice.PartMut.{put_mid, post_of, take_put}
 use lib.Lanes.{put_chunk}
 use Rattle.std.proofs.lemmas.Simd.{length-put_chunk, put_chunk_is}
 use Rattle.causes_query.specs.Assignment.{bit_of}
-use Rattle.causes_query.proofs.SourceLaws.{range_with_len-add}
 use Rattle.io_text.specs.Text.{after_commas, bit_text}
 use Rattle.io_text.proofs.Commas.{after_commas-append}
 use Rattle.text_causes.specs.Rows.{bits, row}
 use Rattle.text_causes.specs.Kept.{ArePairs, AreTails, IsKept, IsNear, Serves, ends, pair_text, tail_text}
 use Rattle.text_causes.specs.declared.kept.Kept.{Kept}
 use Rattle.text_causes.proofs.RowLaws.{bits_more}
+use Rattle.diagram_program.proofs.Ranges.{range_parts}
 
 same_map : {X : Type 0} (f g : ℕ → X) (a b n : ℕ) → ((i : ℕ) → i < n → f (a + i) ≡ g (b + i)) → map f (range_with_len a n) ≡ map g (range_with_len b n)
 same_map f g a b zero h = refl
@@ -36,13 +36,8 @@ front_bit m n i less =
     ∙ ap (λ d. d % 2 == 1) (sym (div-div-eq-div-mul n 64 (2 ^ (m - (i + 1)))))
 
 six : (n i : ℕ) → i < 6 → n / 2 ^ i % 2 ≡ n % 64 / 2 ^ i % 2
-six n zero less = omega arith
-six n (suc zero) less = omega arith
-six n (suc (suc zero)) less = omega arith
-six n (suc (suc (suc zero))) less = omega arith
-six n (suc (suc (suc (suc zero)))) less = omega arith
-six n (suc (suc (suc (suc (suc zero))))) less = omega arith
 six n (suc (suc (suc (suc (suc (suc i)))))) less = absurd (omega (arith, less))
+six n _ less = omega arith
 
 last_bit : (m n i : ℕ) → i < 6 → bit_of (m + 6) (0 + m + i) n ≡ bit_of 6 (0 + i) (n % 64)
 last_bit m n i less =
@@ -52,7 +47,7 @@ last_bit m n i less =
 bits_cut : (m n : ℕ) → after_commas (bits (m + 6) n (m + 6)) ≡ after_commas (bits m (n / 64) m) ++ after_commas (bits 6 (n % 64) 6)
 bits_cut m n =
     let f = λ (place : ℕ). bit_text (bit_of (m + 6) place n) in
-    ap (λ xs. after_commas (map f xs)) (range_with_len-add 0 m 6)
+    ap (λ xs. after_commas (map f xs)) (range_parts 0 m 6)
     ∙ ap after_commas (map-append f (range_with_len 0 m) (range_with_len (0 + m) 6))
     ∙ after_commas-append (map f (range_with_len 0 m)) (map f (range_with_len (0 + m) 6))
     ∙ ap (λ xs. after_commas xs ++ after_commas (map f (range_with_len (0 + m) 6)))
@@ -120,13 +115,11 @@ put_mid_is d m xs p a q b e la lq =
 
 -- what lies before the end of a front is in the front
 cut_front : (a m e : ℕ) (zs : List ℕ) → a + m ≤ e → take m (drop a (take e zs)) ≡ take m (drop a zs)
-cut_front zero zero e zs h = refl
 cut_front zero (suc m) zero zs h = absurd (omega (arith, h))
-cut_front zero (suc m) (suc e) [] h = refl
 cut_front zero (suc m) (suc e) (z ∷ zs) h = ap (λ l. z ∷ l) (cut_front zero m e zs (omega (arith, h)))
 cut_front (suc a) m zero zs h = absurd (omega (arith, h))
-cut_front (suc a) m (suc e) [] h = refl
 cut_front (suc a) m (suc e) (z ∷ zs) h = cut_front a m e zs (omega (arith, h))
+cut_front _ _ _ _ h = refl
 
 part_of_front : (a m e : ℕ) (xs ys : List ℕ) → a + m ≤ e → take e xs ≡ take e ys → take m (drop a xs) ≡ take m (drop a ys)
 part_of_front a m e xs ys h same =

@@ -2,9 +2,9 @@
 use Rattle.std.proofs.Common.{◌≡◌, ◌≢◌, ◌∙◌, ◌+◌, ◌-◌, ◌<◌, ◌≤◌, ℕ, zero, suc, Bool, true, false, cond, List, [], ◌∷◌, ◌++◌, Option, Some, None, append_assoc, append-nil, sym, refl, ap, arith, drop, length, length-append, nat_le, nat_lt, take}
 use Rattle.std.specs.Prelude.{All, IfSome, MatchOption}
 use Rattle.std.specs.List.{AllByRecursion, filter}
-use Rattle.std.proofs.lemmas.Bool.Decides.{nat_tests}
 use Rattle.std.proofs.lemmas.List.{length-take-le, take_at}
 use Rattle.std.proofs.lemmas.List.Elements.{filter-append, recursion_from_All}
+use Rattle.std.proofs.lemmas.Bool.{le-leb, lt-leb, lt-ltb, le-ltb}
 use Rattle.search_tree.specs.Looks.{Search, looks_in_all, looks_upto}
 use Rattle.search_tree.specs.Marked.{marked}
 use Rattle.search_tree.specs.declared.marked.Marked.{Marked}
@@ -15,26 +15,14 @@ use Rattle.text_causes.specs.Limit.{limit_left}
 use Rattle.text_causes.specs.Parts.{part, part_looks, settled}
 use Rattle.text_causes.proofs.Taking.{Going}
 
-is_to : (n last : ℕ) → n ≤ last → nat_le n last ≡ true
-is_to n last h = grind (arith, nat_tests)
-
-is_past : (n last : ℕ) → last < n → nat_le n last ≡ false
-is_past n last h = grind (arith, nat_tests)
-
-is_less : (a c : ℕ) → a < c → nat_lt a c ≡ true
-is_less a c h = grind (arith, nat_tests)
-
-is_more : (a c : ℕ) → c ≤ a → nat_lt a c ≡ false
-is_more a c h = grind (arith, nat_tests)
-
 -- all are up to a number, or none
-all_to : (last : ℕ) (ns : List ℕ) → AllByRecursion (λ n. n ≤ last) ns → numbers_to last ns ≡ ns
+pub all_to : (last : ℕ) (ns : List ℕ) → AllByRecursion (λ n. n ≤ last) ns → numbers_to last ns ≡ ns
 all_to last [] h = refl
-all_to last (n ∷ ns) h = ap (λ b. cond b (n ∷ numbers_to last ns) (numbers_to last ns)) (is_to n last h.0) ∙ ap (λ ms. n ∷ ms) (all_to last ns h.1)
+all_to last (n ∷ ns) h = ap (λ b. cond b (n ∷ numbers_to last ns) (numbers_to last ns)) (le-leb n last h.0) ∙ ap (λ ms. n ∷ ms) (all_to last ns h.1)
 
-none_to : (last : ℕ) (ns : List ℕ) → AllByRecursion (λ n. last < n) ns → numbers_to last ns ≡ []
+pub none_to : (last : ℕ) (ns : List ℕ) → AllByRecursion (λ n. last < n) ns → numbers_to last ns ≡ []
 none_to last [] h = refl
-none_to last (n ∷ ns) h = ap (λ b. cond b (n ∷ numbers_to last ns) (numbers_to last ns)) (is_past n last h.0) ∙ none_to last ns h.1
+none_to last (n ∷ ns) h = ap (λ b. cond b (n ∷ numbers_to last ns) (numbers_to last ns)) (lt-leb n last h.0) ∙ none_to last ns h.1
 
 pub part_gives : (last : Option ℕ) (end : ℕ) (old ns new : List ℕ) → last ≡ Some end → old ≡ ns ++ new → All (λ n. n ≤ end) ns → part last old ≡ ns ++ part last new
 part_gives last end old ns new is first within =
@@ -82,7 +70,7 @@ looks_at_end last limit old a b count g p none short within looks =
     by (Some m) short within here long =
         let other : m ≢ count = λ q. short (ap (λ (x : ℕ). Some x) q) in
         let less : length (part last old.rest) < m = omega (arith, other, within, long) in
-        let t : nat_lt (length (part last old.rest)) m ≡ true = is_less (length (part last old.rest)) m less in
+        let t : nat_lt (length (part last old.rest)) m ≡ true = lt-ltb (length (part last old.rest)) m less in
         here ∙ sym (ap (λ c. cond c (settled last (searched old) (looks_through (searched old) (looks_of old) (part last old.rest)))
         (looks_through (searched old) (looks_of old) (take m (part last old.rest)))) t)
 
@@ -92,7 +80,7 @@ looks_at_limit last limit old a count g p is =
     let long = length-take-le count old.rest g.within in
     let cut : length (part last old.rest) ≡ length (take count old.rest ++ part last a.rest) = ap length p.split in
     let more : count ≤ length (part last old.rest) = omega (arith, cut, long, length-append (take count old.rest) (part last a.rest)) in
-    let t : nat_lt (length (part last old.rest)) count ≡ false = is_more (length (part last old.rest)) count more in
+    let t : nat_lt (length (part last old.rest)) count ≡ false = le-ltb (length (part last old.rest)) count more in
     let first : take count (part last old.rest) ≡ take count old.rest = ap (take count) p.split ∙ take_at (take count old.rest) (part last a.rest) count long in
     rw is (g.looks ∙ ap (looks_through (searched old) (looks_of old)) (sym first)
     ∙ sym (ap (λ c. cond c (settled last (searched old) (looks_through (searched old) (looks_of old) (part last old.rest)))

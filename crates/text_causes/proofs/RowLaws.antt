@@ -5,17 +5,17 @@ use Rattle.std.specs.List.{range_with_len, slice_range}
 use borrow.Rule.Slice.PartMut.{put_mid, post_of}
 use Rattle.std.proofs.lemmas.List.{drop_at, length-take-le, map-append, take-append-drop, take_at}
 use Rattle.causes_query.specs.Assignment.{bit_of}
-use Rattle.causes_query.proofs.SourceLaws.{range_with_len-add}
 use Rattle.io_text.specs.Text.{after_commas, bit_text}
 use Rattle.io_text.proofs.Commas.{after_commas-append}
 use Rattle.text_causes.specs.Rows.{bits}
+use Rattle.diagram_program.proofs.Ranges.{range_parts}
 
 -- one bit more
 pub bits_more : (k n i : ℕ) → after_commas (bits k n (i + 1)) ≡ after_commas (bits k n i) ++ (codes "," ++ bit_text (bit_of k i n))
 bits_more k n i =
     let f = λ (place : ℕ). bit_text (bit_of k place n) in
     let here : 0 + i ≡ i = omega arith in
-    ap (λ xs. after_commas (map f xs)) (range_with_len-add 0 i 1)
+    ap (λ xs. after_commas (map f xs)) (range_parts 0 i 1)
     ∙ ap after_commas (map-append f (range_with_len 0 i) (range_with_len (0 + i) 1))
     ∙ after_commas-append (bits k n i) (map f (range_with_len (0 + i) 1))
     ∙ ap (λ j. after_commas (bits k n i) ++ (codes "," ++ (f j ++ []))) here

@@ -1,11 +1,10 @@
 -- Rows that a buffer holds, behind those that wait in a block.
-use Rattle.std.proofs.Common.{◌≡◌, ◌∙◌, inl, inr, ℕ, ◌+◌, ◌-◌, ◌/◌, ◌^◌, ◌<◌, ◌≤◌, ◌==◌, List, [], ◌++◌, sym, refl, subst, ap, append_assoc, append-nil, arith, bit_and, length, map, take, Result, Ok, Err}
+use Rattle.std.proofs.Common.{◌≡◌, ◌∙◌, inl, inr, ℕ, ◌+◌, ◌-◌, ◌/◌, ◌^◌, ◌<◌, ◌≤◌, List, [], ◌++◌, sym, subst, ap, append_assoc, append-nil, arith, bit_and, length, map, take}
 use Rattle.std.specs.Int.{bit_at, trailing_zeros, w64}
 use Rattle.std.proofs.lemmas.List.{length-take-le, take-append-le}
 use Rattle.std.proofs.lemmas.Bool.{cases_lt}
-use Rattle.std.specs.List.{filter, range_with_len}
 use Rattle.std.proofs.lemmas.List.{map-append}
-use Rattle.std.proofs.lemmas.Nat.{shr-shr, zero_from_ones}
+use Rattle.std.proofs.lemmas.Nat.{zero_from_ones}
 use Rattle.std.specs.Prelude.{count_ones}
 use Rattle.std.proofs.lemmas.Nat.Bits.{bit_at-lt, bit_at_and}
 use Rattle.std.proofs.Math.Pow.{pow_mono}
@@ -14,15 +13,15 @@ use Rattle.std.proofs.Math.Seq.{take-append-add}
 use borrow.Rule.Slice.PartMut.{put_mid, post_of}
 use Rattle.search_tree.specs.Marked.{marked}
 use Rattle.search_tree.proofs.Bits.{all_marked, all_unmarked, bit_shifted, lowest}
-use Rattle.search_tree.proofs.Marks.{filter_cut, filter_front, filter_same, high_zero, is_marked, lowest_marked, marked_ones, marked_parts, not_marked, without_lowest}
+use Rattle.search_tree.proofs.Marks.{lowest_marked, marked_ones, marked_parts, without_lowest}
 use Rattle.text_causes.specs.CauseText.{cause_record}
 use Rattle.text_causes.specs.Rows.{row, rows}
-use Rattle.io_text.specs.Buffer.{Sends, SendsAll}
+use Rattle.io_text.specs.Buffer.{SendsAll}
 use Rattle.io_text.specs.Log.{PutsPrefix, WriteLog}
 use Rattle.io_text.specs.Text.{lines_text}
 use Rattle.io_text.proofs.Commas.{lines_text-append}
 use Rattle.io_text.proofs.Puts.{puts_none}
-use Rattle.io_text.proofs.Sending.{sends_more, sends_none, sends_prefix, sends_same}
+use Rattle.io_text.proofs.Sending.{sends_more, sends_prefix, sends_same}
 
 -- a text that a buffer takes
 pub buffered : (a : WriteLog) (w held text : List ℕ) → SendsAll a a (w ++ held) (w ++ (held ++ text)) text
@@ -105,9 +104,6 @@ first_of mask c j some small =
       λ low. let one = all_marked (j + (64 - c)) (omega (arith, low, small)) in omega (arith, both, there, one, bit_at-lt mask j),
       λ high. let none = all_unmarked (j + (64 - c)) (omega (arith, high, small)) in omega (arith, both, there, none),
     )
-
-pub later_of : (mask place c : ℕ) → mask / 2 ^ place / 2 ^ c ≡ mask / 2 ^ (place + c)
-later_of mask place c = shr-shr mask place c
 
 pub later_smaller : (mask c : ℕ) → 0 < mask → 0 < c → mask / 2 ^ c < mask
 later_smaller mask c some more =

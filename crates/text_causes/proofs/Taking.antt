@@ -49,7 +49,7 @@ room_for_many xs ns rest n within e =
     omega (arith, left, within, length-append ns rest)
 
 -- the looks are those until the last number
-through_both : (s : Search) (before : ℕ) (xs ys : List ℕ) → looks_through s before (xs ++ ys) ≡ looks_through s (looks_through s before xs) ys
+pub through_both : (s : Search) (before : ℕ) (xs ys : List ℕ) → looks_through s before (xs ++ ys) ≡ looks_through s (looks_through s before xs) ys
 through_both s before [] ys = refl
 through_both s before (x ∷ xs) ys = through_both s (looks_until s x) xs ys
 

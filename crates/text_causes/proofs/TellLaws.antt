@@ -1,53 +1,38 @@
 -- A list that tells how far it is: how much of it was given, and what was written of it.
-use Rattle.std.proofs.Common.{◌≡◌, ◌≢◌, ◌∙◌, ◌+◌, ◌-◌, ◌<◌, ◌≤◌, ℕ, zero, suc, Bool, true, false, cond, List, [], ◌∷◌, ◌++◌, Option, Some, None, inl, inr, append_assoc, append-nil, sym, refl, ap, arith, drop, length, length-append, map, max, nat_le, nat_lt, subst, take}
+use Rattle.std.proofs.Common.{◌≡◌, ◌≢◌, ◌∙◌, ◌+◌, ◌-◌, ◌<◌, ◌≤◌, ℕ, zero, suc, Bool, true, false, cond, List, [], ◌∷◌, ◌++◌, Option, Some, None, inl, inr, append_assoc, append-nil, sym, refl, ap, arith, drop, length, length-append, max, nat_le, nat_lt, subst, take}
 use Rattle.std.specs.Prelude.{IfSome}
 use Rattle.std.specs.List.{AllByRecursion, filter}
-use Rattle.std.proofs.lemmas.Bool.{cases_lt}
+use Rattle.std.proofs.lemmas.Bool.{cases_lt, leb-true, lt-ltb, le-ltb}
 use Rattle.std.proofs.lemmas.Bool.Decides.{nat_tests}
-use Rattle.std.proofs.lemmas.List.{drop-append-le, drop_at, length-take, length-take-le, map-append, take-append-drop, take-append-le, take_all}
+use Rattle.std.proofs.lemmas.List.{drop-append-le, drop_at, length-take, length-take-le, take-append-drop, take-append-le, take_all}
 use Rattle.std.proofs.lemmas.List.Elements.{filter-append}
-use Rattle.io_text.specs.Text.{lines_text}
-use Rattle.io_text.proofs.Commas.{lines_text-append}
 use Rattle.search_tree.specs.Looks.{Search, looks_until, looks_upto}
 use Rattle.search_tree.proofs.Settling.{looks_grow}
 use Rattle.causes_one_scan.specs.Cursor.{Cursor, Takes, looks_of, looks_through, searched}
 use Rattle.causes_one_scan.specs.Parts.{numbers_above, numbers_to}
-use Rattle.text_causes.specs.CauseText.{TakesAtMost, cause_record, cause_text, limited}
+use Rattle.text_causes.specs.CauseText.{TakesAtMost, cause_text, limited}
 use Rattle.text_causes.specs.Limit.{limit_left}
 use Rattle.text_causes.specs.Parts.{part, part_looks, settled}
-use Rattle.text_causes.specs.Progress.{BreaksAfter, TellsUntil, reached_line, reached_text}
+use Rattle.text_causes.specs.Progress.{BreaksAfter, reached_line, reached_text}
 use Rattle.text_causes.specs.Rows.{header, rows}
 use Rattle.text_causes.specs.Telling.{AreTold, IsBase, IsTold, IsUntold, Telling, TellsEnd, TellsSent}
 use Rattle.text_causes.specs.declared.progress.ProgressFault.{ProgressFault}
 use Rattle.text_causes.specs.declared.progress.ProgressFault.TheVariants.{Lines, Rows}
 use Rattle.text_causes.proofs.NearLaws.{drop_twice}
-use Rattle.text_causes.proofs.PartLaws.{part_short}
+use Rattle.text_causes.proofs.PartLaws.{part_short, all_to, none_to}
 use Rattle.io_text.specs.Buffer.{SendsAll}
 use Rattle.io_text.specs.Log.{PutsAll, PutsPrefix, WriteLog}
 use Rattle.io_text.proofs.Puts.{prefix_after, puts_more, puts_none}
 use Rattle.io_text.proofs.Sending.{flush_all, sends_more, sends_none, sends_prefix}
+use Rattle.text_causes.proofs.Taking.{through_both}
+use Rattle.text_causes.proofs.RunLaws.{rows_both}
 
 true_false : true ≡ false → ⊥
 true_false e = cc
 
 -- ---- numbers up to one and above it
-is_to : (n last : ℕ) → n ≤ last → nat_le n last ≡ true
-is_to n last h = grind (arith, nat_tests)
-
-is_past : (n last : ℕ) → last < n → nat_le n last ≡ false
-is_past n last h = grind (arith, nat_tests)
-
-to_is : (n last : ℕ) → nat_le n last ≡ true → n ≤ last
-to_is n last h = grind (arith, nat_tests)
-
 above_is : (n last : ℕ) → nat_lt last n ≡ true → last < n
 above_is n last h = grind (arith, nat_tests)
-
-is_less : (a c : ℕ) → a < c → nat_lt a c ≡ true
-is_less a c h = grind (arith, nat_tests)
-
-is_more : (a c : ℕ) → c ≤ a → nat_lt a c ≡ false
-is_more a c h = grind (arith, nat_tests)
 
 -- what a test keeps passes it
 kept_pass : (keep : ℕ → Bool) (P : ℕ → Type 0) → ((n : ℕ) → keep n ≡ true → P n) → (ns : List ℕ) → AllByRecursion P (filter keep ns)
@@ -79,14 +64,6 @@ both_have P (x ∷ xs) ys h k = (h.0, both_have P xs ys h.1 k)
 weaker : (a b : ℕ) (ns : List ℕ) → a ≤ b → AllByRecursion (λ n. n ≤ a) ns → AllByRecursion (λ n. n ≤ b) ns
 weaker a b [] h k = tt
 weaker a b (n ∷ ns) h k = (omega (arith, h, k.0), weaker a b ns h k.1)
-
-all_to : (last : ℕ) (ns : List ℕ) → AllByRecursion (λ n. n ≤ last) ns → numbers_to last ns ≡ ns
-all_to last [] h = refl
-all_to last (n ∷ ns) h = ap (λ b. cond b (n ∷ numbers_to last ns) (numbers_to last ns)) (is_to n last h.0) ∙ ap (λ ms. n ∷ ms) (all_to last ns h.1)
-
-none_to : (last : ℕ) (ns : List ℕ) → AllByRecursion (λ n. last < n) ns → numbers_to last ns ≡ []
-none_to last [] h = refl
-none_to last (n ∷ ns) h = ap (λ b. cond b (n ∷ numbers_to last ns) (numbers_to last ns)) (is_past n last h.0) ∙ none_to last ns h.1
 
 part_have : (P : ℕ → Type 0) (upto : Option ℕ) (ns : List ℕ) → AllByRecursion P ns → AllByRecursion P (part upto ns)
 part_have P None ns h = h
@@ -163,12 +140,12 @@ limited_two (Some m) k low rest long within =
 -- ---- the looks
 none_count : (s : Search) (before last : ℕ) → last < s.first → looks_upto s before last ≡ before
 none_count s before last h =
-    let t : nat_lt last s.first ≡ true = is_less last s.first h in
+    let t : nat_lt last s.first ≡ true = lt-ltb last s.first h in
     ap (λ b. cond b before (max before (looks_until s last))) t
 
 some_count : (s : Search) (before last : ℕ) → s.first ≤ last → looks_upto s before last ≡ max before (looks_until s last)
 some_count s before last h =
-    let t : nat_lt last s.first ≡ false = is_more last s.first h in
+    let t : nat_lt last s.first ≡ false = le-ltb last s.first h in
     ap (λ b. cond b before (max before (looks_until s last))) t
 
 -- A stop on the way adds no look.
@@ -187,10 +164,6 @@ upto_twice s before n last order = elim (cases_lt n s.first) [
 settled_twice : (upto : Option ℕ) (s : Search) (before n : ℕ) → IfSome upto (λ last. n ≤ last) → settled upto s (looks_upto s before n) ≡ settled upto s before
 settled_twice None s before n h = refl
 settled_twice (Some last) s before n h = upto_twice s before n last h
-
-through_both : (s : Search) (before : ℕ) (xs ys : List ℕ) → looks_through s before (xs ++ ys) ≡ looks_through s (looks_through s before xs) ys
-through_both s before [] ys = refl
-through_both s before (x ∷ xs) ys = through_both s (looks_until s x) xs ys
 
 through_settled : (upto : Option ℕ) (s : Search) (before n : ℕ) (ys : List ℕ) → IfSome upto (λ last. n ≤ last)
     → settled upto s (looks_through s (looks_upto s before n) ys) ≡ settled upto s (looks_through s before ys)
@@ -216,21 +189,21 @@ step_looks upto (Some m) s before n k low rest all h long is = elim (cases_lt (l
       let same : all ≡ low ++ rest = is ∙ ap (λ xs. xs ++ rest) (take_all k low (omega (arith, whole))) in
       let size : length all ≡ length low + length rest = ap length same ∙ length-append low rest in
       let inner : part_looks (Some n) s before (Some m) low ≡ looks_upto s (looks_through s before low) n =
-      ap (λ b. cond b (looks_upto s (looks_through s before low) n) (looks_through s before (take m low))) (is_less (length low) m less) in
+      ap (λ b. cond b (looks_upto s (looks_through s before low) n) (looks_through s before (take m low))) (lt-ltb (length low) m less) in
       let outer : part_looks upto s (part_looks (Some n) s before (Some m) low) (Some (m - k)) rest ≡ part_looks upto s (looks_upto s (looks_through s before low) n) (Some (m - k)) rest =
       ap (λ b. part_looks upto s b (Some (m - k)) rest) inner in
       elim (cases_lt (length rest) (m - k)) [
         | inl fewer ↦
-            let left : nat_lt (length rest) (m - k) ≡ true = is_less (length rest) (m - k) fewer in
-            let right : nat_lt (length all) m ≡ true = is_less (length all) m (omega (arith, size, fewer, whole)) in
+            let left : nat_lt (length rest) (m - k) ≡ true = lt-ltb (length rest) (m - k) fewer in
+            let right : nat_lt (length all) m ≡ true = lt-ltb (length all) m (omega (arith, size, fewer, whole)) in
             outer
             ∙ ap (λ b. cond b (settled upto s (looks_through s (looks_upto s (looks_through s before low) n) rest)) (looks_through s (looks_upto s (looks_through s before low) n) (take (m - k) rest))) left
             ∙ through_settled upto s (looks_through s before low) n rest h
             ∙ ap (settled upto s) (sym (through_both s before low rest)) ∙ ap (λ xs. settled upto s (looks_through s before xs)) (sym same)
             ∙ sym (ap (λ b. cond b (settled upto s (looks_through s before all)) (looks_through s before (take m all))) right)
         | inr more ↦
-            let left : nat_lt (length rest) (m - k) ≡ false = is_more (length rest) (m - k) more in
-            let right : nat_lt (length all) m ≡ false = is_more (length all) m (omega (arith, size, more, whole)) in
+            let left : nat_lt (length rest) (m - k) ≡ false = le-ltb (length rest) (m - k) more in
+            let right : nat_lt (length all) m ≡ false = le-ltb (length all) m (omega (arith, size, more, whole)) in
             let taken = length-take (m - k) rest in
             let front : take m all ≡ low ++ take (m - k) rest = ap (take m) same ∙ limited_two (Some m) k low rest (sym whole) (omega (arith, whole, less)) in
             outer
@@ -243,13 +216,13 @@ step_looks upto (Some m) s before n k low rest all h long is = elim (cases_lt (l
       let cut = length-take m low in
       let full : k ≡ m = omega (arith, long, cut, more) in
       let inner : part_looks (Some n) s before (Some m) low ≡ looks_through s before (take m low) =
-      ap (λ b. cond b (looks_upto s (looks_through s before low) n) (looks_through s before (take m low))) (is_more (length low) m more) in
+      ap (λ b. cond b (looks_upto s (looks_through s before low) n) (looks_through s before (take m low))) (le-ltb (length low) m more) in
       let none : m - k ≡ 0 = omega (arith, full) in
-      let left : nat_lt (length rest) (m - k) ≡ false = is_more (length rest) (m - k) (omega (arith, none)) in
+      let left : nat_lt (length rest) (m - k) ≡ false = le-ltb (length rest) (m - k) (omega (arith, none)) in
       let gone : take (m - k) rest ≡ [] = ap (λ i. take i rest) none in
       let size : length all ≡ length (take k low) + length rest = ap length is ∙ length-append (take k low) rest in
       let taken = length-take k low in
-      let right : nat_lt (length all) m ≡ false = is_more (length all) m (omega (arith, size, taken, full, more)) in
+      let right : nat_lt (length all) m ≡ false = le-ltb (length all) m (omega (arith, size, taken, full, more)) in
       let front : take m all ≡ take m low =
       ap (λ i. take i all) (sym full) ∙ ap (take k) is ∙ take-append-le k (take k low) rest (omega (arith, taken, full, more))
       ∙ take_all k (take k low) (omega (arith, taken)) ∙ ap (λ i. take i low) full in
@@ -315,7 +288,7 @@ module _ (upto limit : Option ℕ) (old a b : Cursor) (count reached n : ℕ) (w
   step_given = limited_is (limit_left limit count) (numbers_to n a.rest)
 
   up_to : AllByRecursion (λ m. m ≤ n) (numbers_to n a.rest)
-  up_to = kept_pass (λ m. nat_le m n) (λ m. m ≤ n) (λ m h. to_is m n h) a.rest
+  up_to = kept_pass (λ m. nat_le m n) (λ m. m ≤ n) (λ m h. leb-true m n h) a.rest
 
   step_split : part upto a.rest ≡ take step_size (numbers_to n a.rest) ++ part upto b.rest
   step_split =
@@ -367,9 +340,6 @@ given_to upto limit old new count n w high =
     let above = limited_have (λ m. n < m) (limit_left limit count) (part upto new.rest) (part_have (λ m. n < m) upto new.rest high) in
     ap (numbers_to n) w.split ∙ filter-append (λ m. nat_le m n) w.given left
     ∙ ap (λ xs. xs ++ numbers_to n left) (all_to n w.given w.low) ∙ ap (λ xs. w.given ++ xs) (none_to n left above) ∙ append-nil w.given
-
-rows_both : (k : ℕ) (xs ys : List ℕ) → rows k (xs ++ ys) ≡ rows k xs ++ rows k ys
-rows_both k xs ys = ap lines_text (map-append (cause_record k) xs ys) ∙ lines_text-append (map (cause_record k) xs) (map (cause_record k) ys)
 
 -- ---- what was written
 pub telling_begins : (text_to : ℕ → List ℕ) (old : WriteLog) → Telling text_to [] old old [] []
@@ -628,7 +598,7 @@ module _ (upto limit : Option ℕ) (a : Cursor) (count n : ℕ) (within : IfSome
       let few = limited_few left low in
       let split : part upto a.rest ≡ take size low ++ part upto (drop size a.rest) =
       ap (part upto) order
-      ∙ part_cut upto n size low (numbers_above n a.rest) within (kept_pass (λ m. nat_le m n) (λ m. m ≤ n) (λ m h. to_is m n h) a.rest) few
+      ∙ part_cut upto n size low (numbers_above n a.rest) within (kept_pass (λ m. nat_le m n) (λ m. m ≤ n) (λ m h. leb-true m n h) a.rest) few
       ∙ ap (λ xs. take size low ++ part upto (drop size xs)) (sym order) in
       ap (limited left) split
       ∙ limited_two left size (take size low) (part upto (drop size a.rest)) (length-take-le size low few) (left_within limit count low)
@@ -668,17 +638,6 @@ module _ (lines : Bool) (upto limit : Option ℕ) (old a : Cursor) (count reache
   pub last_counted : (more : ℕ) → more ≡ length (limited left (part upto a.rest)) → count + more ≡ length (limited limit (part upto old.rest))
   last_counted more is =
       ap (λ m. count + m) (is ∙ ap (λ l. length (limited l (part upto a.rest))) is_left) ∙ way_long upto limit old a count reached s.way
-
-  pub last_looks : (b : Cursor) → looks_of b ≡ part_looks upto (searched a) (looks_of a) left (part upto a.rest)
-      → looks_of b ≡ part_looks upto (searched old) (looks_of old) limit (part upto old.rest)
-  last_looks b is =
-      is ∙ ap (λ l. part_looks upto (searched a) (looks_of a) l (part upto a.rest)) is_left
-      ∙ ap (λ (t : Search). part_looks upto t (looks_of a) (limit_left limit count) (part upto a.rest)) (ap searched s.way.takes.question) ∙ s.way.looks
-
-  pub last_took : (b : Cursor) → TakesAtMost a b (length (limited left (part upto a.rest))) → TakesAtMost old b (length (limited limit (part upto old.rest)))
-  last_took b t =
-      let long = last_counted (length (limited left (part upto a.rest))) refl in
-      (count + t.0, omega (arith, long, t.1), takes_both old a b count t.0 s.way.takes t.2)
 
   module _ (within : IfSome upto (λ last. n ≤ last)) (order : a.rest ≡ numbers_to n a.rest ++ numbers_above n a.rest) where
     -- rows up to n that could not be written

@@ -18,7 +18,7 @@ use causes_one_scan::Causes;
 use io_text::{Sink, TextBuffer, WriteFault};
 use search_tree::Marked;
 
-/// What a list has next, or the part of it up to `last`.
+/// The next numbers of a list, at most `most`, or of the part of it up to `last`.
 fn next_numbers(causes: &mut Causes<'_>, last: Option<u64>, most: u64) -> Option<Marked>
     requires most { 0 < most }
     ensures gives { IfSome result (λ m. causes.old.rest ≡ marked m.number m.mask ++ causes.new.rest) }

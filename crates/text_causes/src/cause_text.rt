@@ -13,8 +13,12 @@ use causes_one_scan::Causes;
 use io_text::{CountedWriter, Sink, WriteFault};
 use std::io;
 
-/// Writes the text of a list, or of the part of it up to `last`: of what is left, or of the first causes where there is a limit.
-fn write_rows<W: Sink>(
+/// Writes the text of a list, as `write_causes` does, or of the part of it up to `last`, as `write_part` does.
+///
+/// # Errors
+///
+/// X6, as `write_causes`.
+pub fn write_upto<W: Sink>(
     causes: &mut Causes<'_>,
     last: Option<u64>,
     limit: Option<u64>,
@@ -56,7 +60,7 @@ pub fn write_causes<W: Sink>(
     ensures looks { IfOk result (λ s. s.looks ≡ looks_of causes.new) }
     ensures counted { IfOk result (λ _. looks_of causes.new ≡ looks_given (searched causes.old) (looks_of causes.old) limit causes.old.rest) }
 {
-    write_rows(causes, None, limit, writer)
+    write_upto(causes, None, limit, writer)
 }
 
 /// Writes the text of the causes up to `last` that are left, or of the first ones where there is a limit, as `write_causes` does. Those
@@ -80,5 +84,5 @@ pub fn write_part<W: Sink>(
     ensures counted { IfOk result (λ _. looks_of causes.new
         ≡ looks_given_to (searched causes.old) (looks_of causes.old) last limit (numbers_to last causes.old.rest)) }
 {
-    write_rows(causes, Some(last), limit, writer)
+    write_upto(causes, Some(last), limit, writer)
 }

@@ -42,7 +42,7 @@ pub(crate) struct Kept {
     tails: [u8; 1024],
 }
 
-/// Some bytes of a text, from a place on.
+/// This many bytes of a text, from a place on, read in one piece.
 #[inline(always)]
 fn load<const N: usize>(text: &[u8], at: usize) -> Simd<u8, N>
     requires { at + N ≤ length text.now }
@@ -51,7 +51,7 @@ fn load<const N: usize>(text: &[u8], at: usize) -> Simd<u8, N>
     Simd::<u8, N>::from_slice(&text[at..])
 }
 
-/// Writes bytes into a text from a place on, in one piece.
+/// Writes bytes over a text from a place on, in one piece.
 #[inline(always)]
 fn store<const N: usize>(text: &mut [u8], at: usize, bytes: Simd<u8, N>)
     requires { at + N ≤ length text.old }
@@ -60,6 +60,7 @@ fn store<const N: usize>(text: &mut [u8], at: usize, bytes: Simd<u8, N>)
     bytes.copy_to_slice(&mut text[at..]);
 }
 
+/// Fills the table of the texts of six bits, which end most rows.
 fn fill_tails(tails: &mut [u8])
     requires { length tails.old ≡ 1024 }
     ensures { AreTails tails.new 64 }
@@ -69,6 +70,7 @@ fn fill_tails(tails: &mut [u8])
     }
 }
 
+/// Fills the table of the texts of two digits.
 fn fill_pairs(pairs: &mut [u8])
     requires { length pairs.old ≡ 200 }
     ensures { ArePairs pairs.new 100 }
@@ -80,7 +82,7 @@ fn fill_pairs(pairs: &mut [u8])
 }
 
 impl Kept {
-    /// The row of 0.
+    /// The kept row before any other: the row of 0, and the tables of the texts of digits and bits.
     pub(crate) fn new(listed: usize) -> Kept
         requires { listed ≤ 64 }
         ensures { IsKept listed result }
@@ -101,7 +103,7 @@ impl Kept {
         }
     }
 
-    /// Keeps the row that the rows of a number and of its neighbours are made from.
+    /// Keeps the row from which the rows of a number and of its neighbours are copied.
     pub(crate) fn keep(&mut self, listed: usize, number: u64)
         requires few { listed ≤ 64 }
         requires kept { IsKept listed self.old }
@@ -112,7 +114,7 @@ impl Kept {
         self.keep_bits(listed, number - number % 64);
     }
 
-    /// Keeps the digits of a number whose last two are 0.
+    /// Puts into the kept row the digits of a number whose last two are 0; the copies get their own last two.
     fn keep_digits(&mut self, hundreds: u64)
         requires whole { hundreds % 100 ≡ 0 }
         ensures kept { (k : ℕ) → k ≤ 64 → IsKept k self.old → IsKept k self.new }
@@ -125,7 +127,7 @@ impl Kept {
         }
     }
 
-    /// Keeps the bits of a number whose last six are 0.
+    /// Puts into the kept row the bits of a number whose last six are 0; the copies get their own last six.
     fn keep_bits(&mut self, listed: usize, sixties: u64)
         requires few { listed ≤ 64 }
         requires kept { IsKept listed self.old }
@@ -149,7 +151,7 @@ impl Kept {
         100 <= self.hundreds && 6 <= listed && DIGITS + 2 * listed + 1 - self.start <= LONGEST
     }
 
-    /// Writes the row of a number near the kept one over the first bytes of a text: the number is so many places behind the first of
+    /// Writes the row of a number near the kept one over the first bytes of a text: the number is `place` places after the first of
     /// its run, and `front` are the first bytes of the kept row.
     ///
     /// The copy is patched and never the kept row: a byte that was just written is slow to read again among its neighbours, and each

@@ -13,7 +13,7 @@ mod summary;
 mod table;
 mod term_text;
 
-pub use cause_text::{write_causes, write_part};
+pub use cause_text::{write_causes, write_part, write_upto};
 pub use group_text::{GroupForm, GroupSummary, write_groups};
 pub use progress::{ProgressFault, write_progress};
 pub use row_text::{DIGITS, ROW, add_header, fill_end};

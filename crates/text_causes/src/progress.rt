@@ -1,4 +1,4 @@
-//! A list of causes that tells how far it is.
+//! A list of causes that reports how far it is.
 
 ghost use Rattle.std.specs.Prelude.{ℕ, List, ◌≡◌, ◌-◌, ◌<◌, ◌≤◌, ◌++◌, ◌^◌, [], IfOk, IfSome, MatchResult, None, length};
 ghost use Rattle.causes_one_scan.specs.Cursor.{Takes, looks_of, searched};
@@ -20,7 +20,7 @@ use causes_one_scan::Causes;
 use diagram_program::Program;
 use io_text::{Piece, Sink, TextBuffer, WriteFault, put_pieces};
 
-/// So many numbers behind those that are settled are listed before it is asked how long it took.
+/// This many numbers after those that are settled are listed before the work is counted again.
 const AHEAD: u64 = 4095;
 
 /// The work of a second, in instructions, roughly.
@@ -35,7 +35,7 @@ const LOOK_WORK: u64 = 110;
 
 const STEP_WORK: u64 = 9;
 
-/// Which writer of a list failed that tells how far it is.
+/// Which writer failed of a list that reports how far it is.
 #[derive(Clone, Copy, Debug, PartialEq, Eq)]
 pub enum ProgressFault {
     /// The one of the rows.
@@ -54,6 +54,7 @@ struct Pace {
 }
 
 impl Pace {
+    /// No work was done yet. A look is taken for as much work as the program has steps, each by its measured share.
     fn new(program: &Program) -> Pace {
         let steps = program.steps().len() as u64;
         Pace {
@@ -62,7 +63,8 @@ impl Pace {
         }
     }
 
-    /// Whether a second's work was done since it was last so.
+    /// Whether about a second's work was done since the last time it was; the work is counted in looks and rows, so that no clock
+    /// is asked.
     fn is_due(&mut self, looks: u64, rows: u64) -> bool {
         let rows = rows.wrapping_mul(ROW_WORK);
         let work = looks.wrapping_mul(self.look).wrapping_add(rows);
@@ -74,7 +76,7 @@ impl Pace {
     }
 }
 
-/// The last number of a list.
+/// The last number of a list, or of the part of it that is asked for.
 fn end_of(upto: Option<u64>, listed: usize) -> u64
     requires few { listed ≤ 32 }
     ensures part { IfSome upto (λ last. result ≡ last) }
@@ -86,7 +88,7 @@ fn end_of(upto: Option<u64>, listed: usize) -> u64
     }
 }
 
-/// What a limit leaves after some rows.
+/// How many rows a limit leaves after some were written.
 fn left_of(limit: Option<u64>, rows: u64) -> Option<u64>
     requires within { IfSome limit (λ most. rows ≤ most) }
     ensures { result ≡ limit_left limit rows }
@@ -97,7 +99,7 @@ fn left_of(limit: Option<u64>, rows: u64) -> Option<u64>
     }
 }
 
-/// The number up to which is listed next.
+/// The number up to which rows are added next, before the work is counted again.
 fn next_stop(causes: &Causes<'_>, reached: u64) -> u64
     requires last { reached < 2 ^ 64 - 1 }
     ensures more { reached < result }
@@ -106,7 +108,7 @@ fn next_stop(causes: &Causes<'_>, reached: u64) -> u64
     soon.max(reached + 1)
 }
 
-/// Writes all rows that wait.
+/// Writes all rows that wait in both buffers.
 fn flush_rows<W: Sink>(
     row_buffer: &mut RowBuffer,
     buffer: &mut TextBuffer,
@@ -120,7 +122,7 @@ fn flush_rows<W: Sink>(
     buffer.flush(writer)
 }
 
-/// Writes all rows that wait, and then the line of a number, where numbers are told.
+/// Writes all rows that wait, and then, if lines are asked for, the line `reached N`.
 fn tell<O: Sink, E: Sink>(
     row_buffer: &mut RowBuffer,
     buffer: &mut TextBuffer,
@@ -152,7 +154,7 @@ fn tell<O: Sink, E: Sink>(
     Ok(())
 }
 
-/// Adds the rows of a list, writes those that wait about once a second, and tells a number then, where numbers are told.
+/// Adds the rows of a list, writes those that wait about once a second, and then reports a number, if numbers are reported.
 ///
 /// It is a part of its caller, as `buffer_rows` is of it, so that what they keep is known not to lie where a row is written.
 #[inline(always)]
@@ -268,7 +270,7 @@ pub(crate) fn write_paced<O: Sink, E: Sink>(
 ///
 /// # Errors
 ///
-/// X6, with the writer that failed. What was written of the rows is a prefix of their text, with all of them up to the last number that was told.
+/// X6, with the writer that failed. What was written of the rows is a prefix of their text, with all of them up to the last number that was reported.
 pub fn write_progress<O: Sink, E: Sink>(
     causes: &mut Causes<'_>,
     upto: Option<u64>,

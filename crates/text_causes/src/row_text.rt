@@ -20,7 +20,7 @@ pub const DIGITS: usize = 20;
 /// How many bytes a row has at most: a number, 64 bits, each after a comma, and a line feed.
 pub const ROW: usize = 149;
 
-/// How a variable is spelled where it is declared.
+/// The title of a variable, as it is spelled where it is declared.
 pub(crate) fn name_bytes(decls: &Decls, var: usize) -> &[u8]
     ensures { result.now ≡ name_in (slice_get decls.now.vars var) }
 {
@@ -30,6 +30,7 @@ pub(crate) fn name_bytes(decls: &Decls, var: usize) -> &[u8]
     }
 }
 
+/// Adds a comma and the title of a variable.
 fn add_name<W: Sink>(
     buffer: &mut TextBuffer,
     decls: &Decls,
@@ -42,6 +43,7 @@ fn add_name<W: Sink>(
     buffer.add(name_bytes(decls, var), writer)
 }
 
+/// Adds the titles of the listed inputs, a comma before each.
 fn add_names<W: Sink>(
     buffer: &mut TextBuffer,
     decls: &Decls,
@@ -56,7 +58,7 @@ fn add_names<W: Sink>(
     Ok(())
 }
 
-/// Adds the header: what stands in the first column, and the names of the listed inputs.
+/// Adds the header: the name of the first column, and the names of the listed inputs.
 ///
 /// # Errors
 ///
@@ -75,14 +77,14 @@ pub fn add_header<W: Sink>(
     buffer.add(b"\n", writer)
 }
 
-/// The digit of a bit.
+/// The character `0` or `1` of a bit.
 pub(crate) fn digit(bit: bool) -> u8
     ensures { result ∷ [] ≡ bit_text bit }
 {
     if bit { b'1' } else { b'0' }
 }
 
-/// The bit of the i-th of `listed` inputs.
+/// The bit of a number that is the value of the i-th of `listed` inputs.
 fn bit_of(listed: usize, place: usize, number: u64) -> bool
     requires { (place < listed) × (listed ≤ 64) }
     ensures { result ≡ bit_of listed place number }

@@ -1,4 +1,4 @@
-//! A buffer of rows.
+//! A buffer of rows, which are added to the buffer of the writer many at once.
 
 ghost use Rattle.std.specs.Prelude.{◌≡◌, ◌+◌, ◌-◌, ◌<◌, ◌≤◌, ◌++◌, ◌^◌, ℕ, [], IfOk, length};
 ghost use Rattle.std.specs.Int.{bit_at};
@@ -39,7 +39,7 @@ impl Model for RowBuffer {
 impl RowBuffer {
     ghost use Rattle.text_causes.specs.declared.rows.TheConstants.{FULL};
 
-    /// An empty buffer.
+    /// A buffer that holds no rows.
     pub(crate) fn new() -> RowBuffer
         ensures { result ≡ [] }
     {
@@ -49,7 +49,7 @@ impl RowBuffer {
         }
     }
 
-    /// Hands all that the buffer holds to a buffer.
+    /// Adds all rows of this buffer to the buffer of the writer, and is empty then.
     pub(crate) fn hand_over<W: Sink>(
         &mut self,
         buffer: &mut TextBuffer,
@@ -63,7 +63,7 @@ impl RowBuffer {
         buffer.add(&self.bytes[..used], writer)
     }
 
-    /// Makes sure that the rows of a mask fit.
+    /// Makes sure that the rows of a whole mask fit, by handing over the rows so far where they might not.
     pub(crate) fn make_room<W: Sink>(
         &mut self,
         buffer: &mut TextBuffer,
@@ -78,7 +78,7 @@ impl RowBuffer {
         Ok(())
     }
 
-    /// Takes the row of a number.
+    /// Adds the row of one number to the buffer.
     pub(crate) fn take_row(&mut self, listed: usize, number: u64)
         requires few { listed ≤ 64 }
         requires room { length self.old ≤ FULL }
@@ -92,7 +92,7 @@ impl RowBuffer {
         self.used = used;
     }
 
-    /// Takes the rows of numbers near the kept one.
+    /// Takes the rows of the numbers that a run marks, all of them near the kept row, from which they are copied.
     #[inline(always)]
     pub(crate) fn take_run(&mut self, kept: &Kept, listed: usize, run: Marked)
         requires few { listed ≤ 64 }

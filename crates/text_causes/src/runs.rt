@@ -22,7 +22,7 @@ fn run_length(number: u64) -> u32
     (100 - number % 100).min(64 - number % 64) as u32
 }
 
-/// The first bits of a mask, and none of the others.
+/// The part of a mask with the marks of its first `count` numbers.
 fn first_bits(mask: u64, count: u32) -> u64
     requires { (0 < count) × (count ≤ 64) }
     ensures first { (j : ℕ) → j < count → bit_at result j ≡ bit_at mask j }
@@ -31,7 +31,7 @@ fn first_bits(mask: u64, count: u32) -> u64
     mask & (u64::MAX >> (64 - count))
 }
 
-/// A mask without its first bits.
+/// A mask from its number `count` on.
 fn later_bits(mask: u64, count: u32) -> u64
     requires { (0 < count) × (count ≤ 64) }
     ensures { result ≡ mask / 2 ^ count }
@@ -60,7 +60,7 @@ fn add_singly<W: Sink>(
     Ok(())
 }
 
-/// Adds the rows of a run.
+/// Adds the rows of a run: copied from the kept row, where that serves.
 #[inline(always)]
 fn add_run<W: Sink>(
     row_buffer: &mut RowBuffer,
@@ -87,7 +87,7 @@ fn add_run<W: Sink>(
     Ok(())
 }
 
-/// Adds the rows of numbers.
+/// Adds the rows of the numbers that a mask marks, run by run.
 #[inline(always)]
 pub(crate) fn add_marked<W: Sink>(
     row_buffer: &mut RowBuffer,

@@ -11,7 +11,7 @@ pub struct Summary {
     pub looks: u64,
 }
 
-/// Whether a list with so many rows has reached its limit.
+/// Whether a list with this many rows has reached its limit.
 pub fn is_reached(limit: Option<u64>, rows: u64) -> bool
     ensures yes { result ≡ true → limit ≡ Some rows }
     ensures no { result ≡ false → limit ≢ Some rows }
@@ -22,7 +22,7 @@ pub fn is_reached(limit: Option<u64>, rows: u64) -> bool
     }
 }
 
-/// How many rows a limit leaves.
+/// How many more rows a limit allows.
 pub(crate) fn rows_left(limit: Option<u64>, rows: u64) -> u64
     requires within { IfSome limit (λ most. rows ≤ most) }
     ensures limited { IfSome limit (λ most. result ≡ most - rows) }

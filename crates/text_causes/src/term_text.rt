@@ -29,14 +29,14 @@ pub(crate) fn is_on(group: Group, place: usize) -> bool
     (group.value >> place) & 1 == 1
 }
 
-/// What a term stands in.
+/// What is around a term.
 #[derive(Clone, Copy)]
 pub(crate) enum Brackets {
     Round,
     Without,
 }
 
-/// What stands before a literal: the opening bracket before the first one.
+/// What is written before a literal: AND, and before the first one the opening bracket.
 fn before(brackets: Brackets, begun: bool) -> &'static [u8]
     ensures { result.now ≡ before brackets begun }
 {
@@ -49,7 +49,7 @@ fn before(brackets: Brackets, begun: bool) -> &'static [u8]
     }
 }
 
-/// What stands after the last literal; `TRUE` where there was none.
+/// What is written after the last literal: the closing bracket, and `TRUE` for a group without a literal.
 fn after(brackets: Brackets, begun: bool) -> &'static [u8]
     ensures { result.now ≡ after brackets begun }
 {
@@ -62,14 +62,14 @@ fn after(brackets: Brackets, begun: bool) -> &'static [u8]
     }
 }
 
-/// What stands before the name of an input.
+/// What is written before the name of an input: NOT, if it is OFF in the group.
 fn negation(is_on: bool) -> &'static [u8]
     ensures { result.now ≡ negation is_on }
 {
     if is_on { b"" } else { b"NOT " }
 }
 
-/// Adds what stands before a literal, and the literal: the name of an input, after NOT where it is OFF.
+/// Adds what is written before a literal, and the literal: the name of an input, after NOT where it is OFF.
 fn add_literal<W: Sink>(
     buffer: &mut TextBuffer,
     before: &[u8],

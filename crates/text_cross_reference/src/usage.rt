@@ -20,7 +20,7 @@ pub(crate) enum Use {
     Block,
 }
 
-/// The word of a use.
+/// The word for a use in the column of uses.
 pub(crate) fn use_word(used: Use) -> &'static [u8]
     ensures { result.now ≡ use_word used }
 {
@@ -39,7 +39,7 @@ pub(crate) fn use_word(used: Use) -> &'static [u8]
     }
 }
 
-/// How a cell uses the symbol, if it does.
+/// How a cell uses a variable or instance: reads it, or writes it in one way or another; None where it doesn't.
 fn use_of(symbol: Symbol, cell: Cell) -> Option<Use>
     ensures { result ≡ use_of symbol cell }
 {

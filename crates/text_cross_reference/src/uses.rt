@@ -15,7 +15,7 @@ use diagram_program::geometry::{PLACES, ROWS};
 use io_text::{Sink, TextBuffer, WriteFault, add_line};
 use itoa::Buffer;
 
-/// Adds the line of the header.
+/// Adds the header of the cross-reference: the names of its columns.
 ///
 /// # Errors
 ///
@@ -27,6 +27,7 @@ pub fn add_header<W: Sink>(buffer: &mut TextBuffer, writer: &mut W) -> Result<()
     add_line(buffer, b"name", others.as_slice(), writer)
 }
 
+/// Adds a record of the cross-reference: name, use, rung, row and column.
 fn row_line<W: Sink>(
     buffer: &mut TextBuffer,
     name: &[u8],
@@ -41,7 +42,7 @@ fn row_line<W: Sink>(
     add_line(buffer, name, [word, rung, row, column].as_slice(), writer)
 }
 
-/// Adds the row of a name at a place.
+/// Adds the row of one place where a variable or instance is drawn.
 fn add_row<W: Sink>(
     buffer: &mut TextBuffer,
     name: &[u8],

@@ -38,11 +38,6 @@ is_drawn style s place parts ps marks ms after lines rest outline ea ep em seen 
       ∙ ap (whole_of style s.coil s.program (state_after s) parts marks) (el ∙ ap (slice_split (λ b. b == 10)) er);
 }
 
--- what an answer gives where it is not an error
-pub ok_with : {T E : Type 0} {P Q : Type 0} (r : Result T E) → (P → Q) → OnOk r P → OnOk r Q
-ok_with (Ok x) f p = f p
-ok_with (Err x) f p = p
-
 -- what holds in any case
 pub ok_always : {T E : Type 0} {P : Type 0} (r : Result T E) → P → OnOk r P
 ok_always (Ok x) p = p

@@ -3,36 +3,24 @@ use Rattle.std.proofs.Common.{◌≡◌, ◌∙◌, ◌==◌, ◌++◌, ◌∷�
 use Rattle.std.specs.Prelude.{bytes_eq, slice_index_or}
 use Rattle.scan_cycle.specs.declared.seen.Mark.{Mark}
 use Rattle.text_drawing.specs.declared.look.Look.{Look}
-use Rattle.text_drawing.specs.declared.look.Look.TheVariants.{Plain, Rail, Passed, Wire, Link, Joint, On}
+use Rattle.text_drawing.specs.declared.look.Look.TheVariants.{Wire, Link, Joint}
 use Rattle.text_drawing.specs.Browser.{KeepsCharacters, untagged}
 use Rattle.text_drawing.specs.Page.{before, closing, drawn_place, escaped, look_at, opening, turn}
 use Rattle.text_power.specs.Show.{each}
 
 opened : (look : Look) (rest : List ℕ) → untagged false (opening look ++ rest) ≡ untagged false rest
 unfolding untagged
-opened Plain rest = refl
-opened Rail rest = refl
-opened Passed rest = refl
 opened (Wire true) rest = refl
-opened (Wire false) rest = refl
 opened (Link true) rest = refl
-opened (Link false) rest = refl
 opened (Joint true) rest = refl
-opened (Joint false) rest = refl
-opened On rest = refl
+opened _ rest = refl
 
 closed : (look : Look) (rest : List ℕ) → untagged false (closing look ++ rest) ≡ untagged false rest
 unfolding untagged
-closed Plain rest = refl
-closed Rail rest = refl
-closed Passed rest = refl
 closed (Wire true) rest = refl
-closed (Wire false) rest = refl
 closed (Link true) rest = refl
-closed (Link false) rest = refl
 closed (Joint true) rest = refl
-closed (Joint false) rest = refl
-closed On rest = refl
+closed _ rest = refl
 
 turned_by : (same : Bool) (from to : Look) (rest : List ℕ) → untagged false (cond same [] (closing from ++ opening to) ++ rest) ≡ untagged false rest
 turned_by true from to rest = refl
@@ -46,11 +34,8 @@ escaped_by : (amp lt gt quote : Bool) (b : ℕ) (rest : List ℕ) → (b == 60) 
     → let c = cond amp (codes "&amp;") (cond lt (codes "&lt;") (cond gt (codes "&gt;") (cond quote (codes "&quot;") (b ∷ [])))) in
     untagged false (c ++ rest) ≡ c ++ untagged false rest
 unfolding untagged
-escaped_by true lt gt quote b rest e = refl
-escaped_by false true gt quote b rest e = refl
-escaped_by false false true quote b rest e = refl
-escaped_by false false false true b rest e = refl
 escaped_by false false false false b rest e = rw e refl
+escaped_by _ _ _ _ b rest e = refl
 
 kept : (b : ℕ) (rest : List ℕ) → untagged false (escaped b ++ rest) ≡ escaped b ++ untagged false rest
 kept b rest = escaped_by (b == 38) (b == 60) (b == 62) (b == 34) b rest refl

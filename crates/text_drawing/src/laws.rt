@@ -12,7 +12,7 @@ pub fn keeps_characters()
     ensures { (marks : List Mark) (rung line : ℕ) (text : List ℕ) → KeepsCharacters marks rung line text }
 {}
 
-// Looks at each name for its contract.
+/// The titles of variables have no character that HTML escapes: each one is looked at for its contract.
 fn plain_vars(vars: &[Var])
     ensures { All (λ v. IsPlain v.title) vars.now }
 {
@@ -21,6 +21,7 @@ fn plain_vars(vars: &[Var])
     }
 }
 
+/// The titles of instances have no character that HTML escapes.
 fn plain_instances(instances: &[Instance])
     ensures { All (λ i. IsPlain i.title) instances.now }
 {

@@ -6,12 +6,12 @@ pub mod laws;
 mod look;
 mod marked;
 mod notes;
-mod noting;
 mod page;
 mod picture;
 mod showing;
+mod whole;
 
 pub use fault::ShowFault;
-pub use noting::write_film_start;
 pub use picture::Style;
 pub use showing::{Scan, write_drawing};
+pub use whole::write_film_start;

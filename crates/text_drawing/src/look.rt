@@ -35,20 +35,21 @@ pub(crate) struct RungLine<'a> {
     pub text: &'a [u8],
 }
 
-/// The tags before and behind characters.
+/// The tags before and after characters.
 #[derive(Clone, Copy)]
 pub(crate) struct Tags {
     pub opening: &'static [u8],
     pub closing: &'static [u8],
 }
 
+/// An opening tag and the closing tag that ends it.
 fn tag_pair(opening: &'static [u8], closing: &'static [u8]) -> Tags
     ensures { (result.opening.now ≡ opening.now) × (result.closing.now ≡ closing.now) }
 {
     Tags { opening, closing }
 }
 
-/// The tags of characters that look so.
+/// The tags around characters with this look; what a style sheet makes of them is in the head of the page.
 pub(crate) fn tags_of(look: Look) -> Tags
     ensures opening { result.opening.now ≡ opening look }
     ensures closing { result.closing.now ≡ closing look }
@@ -67,6 +68,7 @@ pub(crate) fn tags_of(look: Look) -> Tags
     }
 }
 
+/// How a `-` looks: by its power, or as passed over if its rung was.
 fn wire_look(evaluated: bool, power: bool) -> Look
     ensures { result ≡ wire_look evaluated power }
 {
@@ -77,13 +79,14 @@ fn wire_look(evaluated: bool, power: bool) -> Look
     }
 }
 
+/// Whether a text is spaces alone.
 fn are_blank(text: &[u8]) -> bool
     ensures { result ≡ list_all (λ c. c == space) text.now }
 {
     text.iter().all(|b| *b == b' ')
 }
 
-/// Whether only blanks are left of the cell.
+/// Whether the rest of a cell, from a character on, is blank.
 fn is_blank_from(text: &[u8], at: usize) -> bool
     requires { at < length text.now }
     ensures { result ≡ list_all (λ c. c == space) (slice_range text.now at (PITCH * (at / PITCH) + PITCH)) }
@@ -129,7 +132,7 @@ pub(crate) fn look_at(line: RungLine<'_>, at: usize) -> Look
     }
 }
 
-/// How the character before a place looks.
+/// How the character before a place looks; one at the begin of a line follows a plain one.
 pub(crate) fn look_before(line: RungLine<'_>, at: usize) -> Look
     requires rung { line.rung < RUNGS }
     requires line { line.line < 2 ^ 59 }

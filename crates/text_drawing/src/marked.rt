@@ -45,7 +45,7 @@ fn add_line_in<W: Sink>(
     }
 }
 
-/// Adds a line and its end.
+/// Adds a line with its marks, and the end of the line.
 pub(crate) fn add_whole_line<W: Sink>(
     buffer: &mut TextBuffer,
     picture: Picture<'_>,

@@ -15,7 +15,7 @@ use scan_cycle::State;
 use scan_signals::Stored;
 use text_power::mark_in;
 
-/// Adds how far a timer that runs is.
+/// Adds how long a timer has run of its preset, in ms.
 fn add_timer_note<W: Sink>(
     buffer: &mut TextBuffer,
     name: &[u8],
@@ -37,7 +37,7 @@ fn add_timer_note<W: Sink>(
     add_pieces(buffer, pieces.as_slice(), writer)
 }
 
-/// Adds how far a counter is.
+/// Adds the count of a counter and its preset.
 fn add_counter_note<W: Sink>(
     buffer: &mut TextBuffer,
     name: &[u8],
@@ -59,6 +59,8 @@ fn add_counter_note<W: Sink>(
     add_pieces(buffer, pieces.as_slice(), writer)
 }
 
+/// Adds what an instance stores: of a timer that runs the time elapsed, of a counter its count; of anything else the marks show
+/// all.
 fn add_stored_note<W: Sink>(
     buffer: &mut TextBuffer,
     name: &[u8],
@@ -70,19 +72,15 @@ fn add_stored_note<W: Sink>(
     ensures { Sends (W.log writer.old) (W.log writer.new) buffer.old buffer.new result (stored_note name.now preset now stored) }
 {
     match stored {
-        Stored::Timer {
-            running: true,
-            start,
-            ..
-        } => {
-            let elapsed = now.saturating_sub(start).min(preset as u64);
-            add_timer_note(buffer, name, preset, elapsed, writer)
+        Stored::Timer { running: true, .. } => {
+            add_timer_note(buffer, name, preset, stored.elapsed(preset, now), writer)
         }
         Stored::Counter { cv, .. } => add_counter_note(buffer, name, preset, cv, writer),
         Stored::Timer { running: false, .. } | Stored::Bistable { .. } => buffer.add(b"", writer),
     }
 }
 
+/// Adds the note on an instance.
 fn add_instance_note<W: Sink>(
     buffer: &mut TextBuffer,
     after: &State,
@@ -105,6 +103,7 @@ fn add_instance_note<W: Sink>(
     }
 }
 
+/// Adds the note on a cell: a block has one.
 fn add_cell_note<W: Sink>(
     buffer: &mut TextBuffer,
     picture: Picture<'_>,
@@ -133,6 +132,7 @@ fn add_cell_note<W: Sink>(
     }
 }
 
+/// Adds the note on the cell at a place, where its rung was evaluated.
 fn add_place_note<W: Sink>(
     buffer: &mut TextBuffer,
     picture: Picture<'_>,
@@ -153,7 +153,7 @@ fn add_place_note<W: Sink>(
     }
 }
 
-/// Adds the notes of a rung.
+/// Adds the notes on the blocks of a rung.
 pub(crate) fn add_rung_notes<W: Sink>(
     buffer: &mut TextBuffer,
     picture: Picture<'_>,
@@ -169,6 +169,7 @@ pub(crate) fn add_rung_notes<W: Sink>(
     Ok(())
 }
 
+/// Whether a variable belongs to the list of values that is written: that of the inputs, or that of the others.
 fn is_among(inputs: bool, var: &Var) -> bool
     ensures { result ≡ is_among inputs var.now }
 {
@@ -179,6 +180,7 @@ fn is_among(inputs: bool, var: &Var) -> bool
     }
 }
 
+/// Adds one variable with its value; after every eighth one a new comment line begins.
 fn add_value<W: Sink>(
     buffer: &mut TextBuffer,
     many: usize,
@@ -202,6 +204,7 @@ fn add_value<W: Sink>(
     add_pieces(buffer, pieces.as_slice(), writer)
 }
 
+/// Adds the variable of this number with its value, where it belongs to the list that is written.
 fn add_numbered_note<W: Sink>(
     buffer: &mut TextBuffer,
     picture: Picture<'_>,
@@ -226,7 +229,7 @@ fn add_numbered_note<W: Sink>(
     }
 }
 
-/// How many of these variables are declared up to this one, where so many come before it.
+/// How many variables of the list are declared up to this one, `many` of them before it.
 fn noted_with(inputs: bool, vars: &[Var], number: usize, many: usize) -> usize
     requires within { number < length vars.now }
     requires many { many ≡ noted_before inputs vars.now number }
@@ -259,6 +262,7 @@ fn add_var_notes<W: Sink>(
     Ok(())
 }
 
+/// Adds the begin of the comment over a drawing: the moment of its scan, in ms.
 fn add_moment<W: Sink>(
     buffer: &mut TextBuffer,
     after: &State,
@@ -274,7 +278,7 @@ fn add_moment<W: Sink>(
     add_pieces(buffer, pieces.as_slice(), writer)
 }
 
-/// Adds what is above the drawing, up to what the marks mean.
+/// Adds what is written above the drawing: the moment, the inputs with their values, and `meaning`, which explains the marks.
 pub(crate) fn add_above<W: Sink>(
     buffer: &mut TextBuffer,
     picture: Picture<'_>,
@@ -288,7 +292,7 @@ pub(crate) fn add_above<W: Sink>(
     buffer.add(meaning, writer)
 }
 
-/// Adds what is below it.
+/// Adds what is written below the drawing: the values of all other variables after the scan.
 pub(crate) fn add_tail<W: Sink>(
     buffer: &mut TextBuffer,
     picture: Picture<'_>,
@@ -301,7 +305,7 @@ pub(crate) fn add_tail<W: Sink>(
     buffer.add(b" *)\n", writer)
 }
 
-/// Adds what is below it, and then this.
+/// Adds what is written below the drawing, and then `end`.
 pub(crate) fn add_tail_with<W: Sink>(
     buffer: &mut TextBuffer,
     picture: Picture<'_>,

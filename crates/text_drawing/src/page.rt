@@ -1,4 +1,4 @@
-//! The lines of a drawing as they stand on a page of HTML.
+//! A drawing on a page of HTML: its lines with tags, and what a page begins with.
 
 ghost use Rattle.std.specs.Prelude.{◌≡◌, ◌<◌, ◌^◌, length, position, slice_index_or};
 ghost use Rattle.diagram_program.specs.declared.geometry.TheConstants.{RUNGS};
@@ -44,7 +44,7 @@ b{--c:var(--on);--t:3px}
 @media print{body{margin:0}pre{font-size:10pt;overflow:visible}}
 ";
 
-/// The rest of the style of a page of many pictures. The buttons stand in a row above the picture that is chosen, or the first one while
+/// The rest of the style of a page of many pictures. The buttons are in a row above the picture that is chosen, or the first one while
 /// none is; on paper all pictures stand one after the other.
 const FRAMES_STYLE: &[u8] = b"body{display:flex;flex-wrap:wrap;align-items:center}
 input{order:0;margin:0 .1em .8em;accent-color:var(--on)}
@@ -63,6 +63,7 @@ const PAGE_LEGEND: &[u8] = b" *)
 (* <b class=s>| |</b> is closed, or Q is ON  <b class=s>( )</b> is ON after its rung *)
 ";
 
+/// The character of a line at a column.
 fn char_at(text: &[u8], at: usize) -> u8
     requires { at < length text.now }
     ensures { result ≡ slice_index_or text.now at space }
@@ -70,7 +71,7 @@ fn char_at(text: &[u8], at: usize) -> u8
     text[at]
 }
 
-/// Adds a character.
+/// Adds a character, as HTML escapes it.
 fn add_escaped<W: Sink>(buffer: &mut TextBuffer, b: u8, writer: &mut W) -> Result<(), WriteFault>
     ensures { Sends (W.log writer.old) (W.log writer.new) buffer.old buffer.new result (escaped b) }
 {
@@ -86,7 +87,7 @@ fn add_escaped<W: Sink>(buffer: &mut TextBuffer, b: u8, writer: &mut W) -> Resul
     }
 }
 
-/// Adds the tags between two characters.
+/// Adds the tags between two characters, where they look different.
 fn add_turn<W: Sink>(
     buffer: &mut TextBuffer,
     from: Look,
@@ -103,7 +104,7 @@ fn add_turn<W: Sink>(
     add_pieces(buffer, tags.as_slice(), writer)
 }
 
-/// Adds a character behind the turn to its look.
+/// Adds a character of a rung, after the tags where its look differs from that before it.
 fn add_place<W: Sink>(
     buffer: &mut TextBuffer,
     line: RungLine<'_>,
@@ -119,7 +120,7 @@ fn add_place<W: Sink>(
     add_escaped(buffer, char_at(line.text, at), writer)
 }
 
-/// Adds the characters of a line of a rung.
+/// Adds the characters of a line of a rung, one after the other.
 fn add_places<W: Sink>(
     buffer: &mut TextBuffer,
     line: RungLine<'_>,
@@ -135,7 +136,7 @@ fn add_places<W: Sink>(
     Ok(())
 }
 
-/// Adds a line of a rung.
+/// Adds a line of a rung with its tags.
 fn add_rung_line<W: Sink>(
     buffer: &mut TextBuffer,
     line: RungLine<'_>,
@@ -149,7 +150,7 @@ fn add_rung_line<W: Sink>(
     buffer.add(tags_of(look_before(line, line.text.len())).closing, writer)
 }
 
-/// Adds a line that is of no rung.
+/// Adds a line that belongs to no rung, without tags.
 fn add_escaped_line<W: Sink>(
     buffer: &mut TextBuffer,
     text: &[u8],
@@ -163,7 +164,7 @@ fn add_escaped_line<W: Sink>(
     Ok(())
 }
 
-/// Adds a line of a text.
+/// Adds a line of the drawing, with tags if it belongs to a rung.
 fn add_drawn_in<W: Sink>(
     buffer: &mut TextBuffer,
     picture: Picture<'_>,
@@ -188,7 +189,7 @@ fn add_drawn_in<W: Sink>(
     }
 }
 
-/// Adds a line and its end.
+/// Adds a line of the drawing and its end.
 pub(crate) fn add_drawn_line<W: Sink>(
     buffer: &mut TextBuffer,
     picture: Picture<'_>,
@@ -203,7 +204,7 @@ pub(crate) fn add_drawn_line<W: Sink>(
     buffer.add(b"\n", writer)
 }
 
-/// Adds what begins a page with this title and the rest of its style.
+/// Adds what a page of HTML begins with: its title, and its style, which ends with `rest`.
 fn add_page_begun<'a, W: Sink>(
     buffer: &mut TextBuffer,
     title: &'a [u8],
@@ -221,7 +222,7 @@ fn add_page_begun<'a, W: Sink>(
     add_pieces(buffer, pieces.as_slice(), writer)
 }
 
-/// Adds what begins a page of one picture.
+/// Adds what a page with one picture begins with.
 #[tactic(auto, unfolding(crate::specs::Page::page_start))]
 fn add_page_start<W: Sink>(buffer: &mut TextBuffer, writer: &mut W) -> Result<(), WriteFault>
     ensures { Sends (W.log writer.old) (W.log writer.new) buffer.old buffer.new result page_start }
@@ -229,7 +230,7 @@ fn add_page_start<W: Sink>(buffer: &mut TextBuffer, writer: &mut W) -> Result<()
     add_page_begun(buffer, b"diagram", b"</style>\n<pre>\n", writer)
 }
 
-/// Adds what begins a page of many pictures.
+/// Adds what the page of a film, with many pictures, begins with.
 #[tactic(auto, unfolding(crate::specs::Page::frames_start, crate::specs::Page::frames_style))]
 pub(crate) fn add_frames_start<W: Sink>(
     buffer: &mut TextBuffer,
@@ -240,7 +241,7 @@ pub(crate) fn add_frames_start<W: Sink>(
     add_page_begun(buffer, b"film", FRAMES_STYLE, writer)
 }
 
-/// Adds what is above the lines of a page.
+/// Adds what is written above the lines of a page with one picture.
 pub(crate) fn add_page_head<W: Sink>(
     buffer: &mut TextBuffer,
     picture: Picture<'_>,
@@ -252,7 +253,7 @@ pub(crate) fn add_page_head<W: Sink>(
     add_above(buffer, picture, PAGE_LEGEND, writer)
 }
 
-/// Adds the button of a picture.
+/// Adds the button by which a picture of a film is chosen: the moment of its scan, in ms.
 #[tactic(auto, unfolding(crate::specs::Page::button_start))]
 fn add_button<W: Sink>(
     buffer: &mut TextBuffer,
@@ -269,7 +270,7 @@ fn add_button<W: Sink>(
     add_pieces(buffer, pieces.as_slice(), writer)
 }
 
-/// Adds what is above the lines of a picture of a page.
+/// Adds what is written above the lines of one picture of a film.
 pub(crate) fn add_frame_head<W: Sink>(
     buffer: &mut TextBuffer,
     picture: Picture<'_>,

@@ -8,8 +8,8 @@ ghost use Rattle.text_drawing.specs.Pictures.{IsSeen};
 ghost use Rattle.text_drawing.specs.Showing.{Fails, IsLeft, Written, scan_of, state_after};
 
 use crate::fault::ShowFault;
-use crate::noting::write_noted;
 use crate::picture::{Picture, Style};
+use crate::whole::write_noted;
 use diagram_page::lines::lines;
 use diagram_page::outline_of;
 use diagram_program::Program;
@@ -32,6 +32,7 @@ pub struct Scan<'a> {
     pub coil: Option<usize>,
 }
 
+/// The text from a place on.
 fn behind(text: &[u8], place: usize) -> &[u8]
     requires { place ≤ length text.now }
     ensures { result.now ≡ drop place text.now }

@@ -1,13 +1,12 @@
 -- A coil that is alone on its variable in its rung obeys its wire.
-use Rattle.std.proofs.Common.{◌≡◌, ◌∙◌, ℕ, ◌+◌, ◌*◌, ◌<◌, ◌≤◌, ◌&&◌, inl, inr, Bool, true, false, cond, not, List, Option, ap, arith, get_or, get_or-set_other, get_or-set_same, length, refl, subst, sym, suc, zero, nat_lt}
+use Rattle.std.proofs.Common.{◌≡◌, ◌∙◌, ℕ, ◌+◌, ◌*◌, ◌<◌, ◌≤◌, ◌&&◌, inl, inr, Bool, true, false, cond, not, List, Option, ap, arith, get_or, get_or-set_other, get_or-set_same, length, refl, subst, sym, suc, zero}
 use Rattle.std.proofs.lemmas.Bool.{cases_lt, eqb-false}
-use Rattle.std.proofs.lemmas.Bool.Decides.{nat_tests}
 use Rattle.diagram_program.specs.declared.geometry.TheConstants.{PLACES}
 use Rattle.diagram_program.specs.declared.mode.CoilMode.{CoilMode}
 use Rattle.diagram_program.specs.declared.mode.CoilMode.TheVariants as coil
 use Rattle.diagram_program.specs.declared.cell.Cell.{Cell}
-use Rattle.diagram_program.specs.declared.cell.Cell.TheVariants.{Empty, Wire, Contact, Coil, Block, Lower, Jump, Return}
-use Rattle.diagram_program.specs.Program.{Drawing, Fits, IsWellFormed, cell_of, is_coil_of}
+use Rattle.diagram_program.specs.declared.cell.Cell.TheVariants.{Coil}
+use Rattle.diagram_program.specs.Program.{Drawing, Fits, IsWellFormed, is_coil_of}
 use Rattle.scan_signals.specs.Truth.{plain}
 use Rattle.scan_cycle.specs.declared.seen.Mark.{Mark}
 use Rattle.scan_cycle.specs.Cells.{Diagram, Frame, at, closed, coil_value, memory_of, put_in, stored_by, var_in}
@@ -19,6 +18,7 @@ use Rattle.scan_cycle.proofs.Changes.{changed_is}
 use Rattle.scan_cycle.proofs.Scanned.{rungs_back}
 use Rattle.scan_cycle.proofs.Sizes.{rung_sizes, size-given, size-put_in}
 use Rattle.text_power.specs.Marks.{LoneCoilsObey, Obeys}
+use Rattle.scan_cycle.proofs.Feeders.{cell_is}
 
 -- ---- what the places of a rung do to a variable
 
@@ -46,14 +46,8 @@ as_many d now j start links h (suc n) =
 
 -- a place with no coil of the variable
 other_place : (c : Cell) (var : ℕ) (xs : List Bool) (x : Bool) → is_coil_of var c ≡ false → get_or (put_in xs (var_in c) x) var false ≡ get_or xs var false
-other_place Empty var xs x h = refl
-other_place Wire var xs x h = refl
-other_place (Contact mode operand memory) var xs x h = refl
 other_place (Coil mode v memory) var xs x h = get_or-set_other xs v var x false (λ e. eqb-false v var h (sym e))
-other_place (Block inst) var xs x h = refl
-other_place (Lower inst linked) var xs x h = refl
-other_place (Jump target) var xs x h = refl
-other_place Return var xs x h = refl
+other_place _ var xs x h = refl
 
 -- the place of the coil
 coil_place : (c : Cell) (mode : CoilMode) (var : ℕ) (memory : Option ℕ) (xs : List Bool) (x m : Bool) → c ≡ Coil mode var memory → var < length xs
@@ -103,13 +97,6 @@ comes_sizes d now first _ _ at_first = refl
 comes_sizes d now first _ _ (goes_on j start comes) =
     sym (rung_sizes d now j start (evaluated d now j start) (frame_of start) refl refl).values ∙ comes_sizes d now first j start comes
 
-is_less : (a b : ℕ) → a < b → nat_lt a b ≡ true
-is_less a b h = grind (arith, nat_tests)
-
-cell_back : (p : Drawing) (j place : ℕ) → place < PLACES → (diagram_of p).cell j place ≡ cell_of p j place
-unfolding diagram_of
-cell_back p j place within = ap (λ b. cond b (cell_of p j place) Empty) (is_less place PLACES within)
-
 -- a coil in a rung that is evaluated from a state
 obeys_here : (d : Diagram) (now j : ℕ) (start : Held) (place var : ℕ) (mode : CoilMode) (memory : Option ℕ) → d.cell j place ≡ Coil mode var memory
     → ((other : ℕ) → other < PLACES → (other ≡ place → ⊥) → is_coil_of var (d.cell j other) ≡ false) → var < length start.values → place < PLACES
@@ -129,8 +116,8 @@ lone_coils p well = λ now inputs h marks sized seen rung place var mode memory 
       | inl (start, comes, e) ↦
           let held : var < length start.values = omega (arith, declared, sized, comes_sizes d now first rung start comes, size-given d.inputs inputs h.values) in
           subst (Obeys mode) (sym e)
-          (obeys_here d now rung start place var mode memory (cell_back p rung place within ∙ is)
-          (λ other there no. ap (is_coil_of var) (cell_back p rung other there) ∙ alone other there no) held within)
+          (obeys_here d now rung start place var mode memory (cell_is p rung place within ∙ is)
+          (λ other there no. ap (is_coil_of var) (cell_is p rung other there) ∙ alone other there no) held within)
       | inr (kept, over, e) ↦
           let bad : false ≡ true = sym (ap (λ (m : Mark). m.evaluated) e) ∙ done in cc
     ]

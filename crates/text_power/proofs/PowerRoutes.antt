@@ -3,7 +3,7 @@ use Rattle.std.proofs.Common.{◌≡◌, ◌∙◌, ℕ, ◌+◌, ◌*◌, ◌/�
 use Rattle.std.specs.List.{list_any}
 use Rattle.diagram_program.specs.declared.geometry.TheConstants.{ROWS, COLUMNS, PLACES}
 use Rattle.diagram_program.specs.declared.cell.Cell.{Cell}
-use Rattle.diagram_program.specs.declared.cell.Cell.TheVariants.{Empty, Wire, Contact, Coil, Block, Lower, Jump, Return}
+use Rattle.diagram_program.specs.declared.cell.Cell.TheVariants.{Contact}
 use Rattle.diagram_program.specs.Program.{Drawing, feeds, is_block}
 use Rattle.scan_signals.specs.Truth.{AnyBool, plain}
 use Rattle.scan_signals.specs.TruthLaws.{plain_lattice}
@@ -16,21 +16,15 @@ use Rattle.scan_cycle.specs.Routes.{Route, left_link}
 use Rattle.scan_cycle.specs.Rung.{Held, circuit, evaluated, frame_of, link_at, lower, second}
 use Rattle.scan_cycle.specs.RungByRung.{Scanned, scanned}
 use Rattle.scan_cycle.specs.Seen.{AreMarks, is_on, lets_through, mark_at, mark_in, mark_passed}
-use Rattle.scan_cycle.proofs.Feeders.{cell_is}
+use Rattle.scan_cycle.proofs.Feeders.{cell_is, feeds_is}
 use Rattle.scan_cycle.proofs.Links.{column_next, first_column}
 use Rattle.text_power.specs.Cuts.{PowerComesByRoutes}
 use Rattle.text_power.specs.Ends.{any_below, any_past, any_to, is_live, is_nowhere}
 use Rattle.text_power.specs.Why.{end_of, is_closed}
-use Rattle.text_power.proofs.RouteEnds.{any_before, live_first, past_live, to_place}
+use Rattle.text_power.proofs.RouteEnds.{any_before, live_first, past_live, to_place, row_of, column_of}
 use Rattle.text_power.proofs.Told.{begun, told}
 
 -- ---- places
-
-same_row : (row column : ℕ) → row < ROWS → (ROWS * column + row) % ROWS ≡ row
-same_row row column h = omega arith
-
-same_column : (row column : ℕ) → row < ROWS → (ROWS * column + row) / ROWS ≡ column
-same_column row column h = omega arith
 
 -- ---- a rung that is evaluated
 
@@ -62,14 +56,8 @@ evaluated_from p sound now inputs h marks seen j place below within is =
 
 -- A mark tells whether its cell is closed.
 closed_is : (f : Frame Bool) (memory : Bool) (h : Held) (c : Cell) (m : Mark) → m.on ≡ is_on (closed plain f memory c) h c → is_closed m c ≡ closed plain f memory c
-closed_is f memory h Empty m e = refl
-closed_is f memory h Wire m e = refl
 closed_is f memory h (Contact mode operand number) m e = e
-closed_is f memory h (Coil mode var number) m e = refl
-closed_is f memory h (Block inst) m e = refl
-closed_is f memory h (Lower inst linked) m e = refl
-closed_is f memory h (Jump target) m e = refl
-closed_is f memory h Return m e = refl
+closed_is f memory h _ m e = refl
 
 pick_same : (b x y z : Bool) → y ≡ z → cond b (cond b x y) z ≡ cond b x y
 pick_same true x y z e = refl
@@ -97,10 +85,6 @@ column_same passes feeding f g (suc n) fed e =
 any_values : (f : Frame Bool) → AreValues plain AnyBool f
 any_values f = record { values = λ i. tt; ends = λ i. tt }
 
-feeds_is : (p : Drawing) (j row column from : ℕ) → (diagram_of p).feeds j row column from ≡ feeds p j row column from
-unfolding diagram_of
-feeds_is p j row column from = refl
-
 -- ---- from column to column
 
 module _ (p : Drawing) (sound : IsSound (diagram_of p)) (now j : ℕ) (start : Held) (marks : List Mark) (seen : AreOf p now j start marks) where
@@ -112,7 +96,7 @@ module _ (p : Drawing) (sound : IsSound (diagram_of p)) (now j : ℕ) (start : H
   left row column = left_link plain (circuit plain d start.kept now j (frame_of start)) row column
 
   left_is : (row column : ℕ) → row < ROWS → link_at d now j start (ROWS * column + row) ≡ left row column
-  left_is row column rows = ap₂ left (same_row row column rows) (same_column row column rows)
+  left_is row column rows = ap₂ left (row_of row column rows) (column_of row column rows)
 
   second_is : (row column : ℕ) → row < ROWS → second plain d j (link_at d now j start) (ROWS * column + row) ≡ lower plain (d.linked j (ROWS * column + row)) (left (row + 1) column)
   second_is row column rows =

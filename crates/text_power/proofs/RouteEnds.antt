@@ -62,10 +62,8 @@ live_pick place (Some m) c = refl
 
 live_more : (a l c : Bool) → ((a && c) || (l && c)) ≡ ((a || l) && c)
 live_more true true true = refl
-live_more true true false = refl
 live_more true false true = refl
-live_more true false false = refl
-live_more false l c = refl
+live_more _ _ _ = refl
 
 live_through : (p : Drawing) (marks : List Mark) (j row column : ℕ) (rs : List Route)
     → list_any (is_live p marks j) (map (λ r. through r row column) rs)
@@ -89,16 +87,11 @@ ended_pick n place (Some m) c = or_none (m == n)
     or_none false = refl
 
 ended_more : (e a i l k h : Bool) → ((e || ((a && k) && h)) || (i || ((l && k) && h))) ≡ ((e || i) || (((a || l) && k) && h))
-ended_more true a i l k h = refl
 ended_more false true true l true true = refl
-ended_more false true true l true false = refl
-ended_more false true true l false h = refl
 ended_more false true false l true true = refl
 ended_more false true false true true false = refl
-ended_more false true false false true false = refl
 ended_more false true false true false h = refl
-ended_more false true false false false h = refl
-ended_more false false i l k h = refl
+ended_more _ _ _ _ _ _ = refl
 
 ended_through : (p : Drawing) (marks : List Mark) (j n row column : ℕ) (rs : List Route)
     → list_any (is_ended n p marks j) (map (λ r. through r row column) rs)
@@ -115,10 +108,10 @@ ended_through p marks j n row column (r ∷ rs) =
     ∙ ap (λ b. (is_some_of n o || ((is_nowhere o && not c) && h)) || b) (ended_through p marks j n row column rs)
     ∙ ended_more (is_some_of n o) (is_nowhere o) rest (list_any (is_live p marks j) rs) (not c) h
 
-row_of : (row column : ℕ) → row < ROWS → (ROWS * column + row) % ROWS ≡ row
+pub row_of : (row column : ℕ) → row < ROWS → (ROWS * column + row) % ROWS ≡ row
 row_of row column h = omega arith
 
-column_of : (row column : ℕ) → row < ROWS → (ROWS * column + row) / ROWS ≡ column
+pub column_of : (row column : ℕ) → row < ROWS → (ROWS * column + row) / ROWS ≡ column
 column_of row column h = omega arith
 
 pub to_place : (test : Route → Bool) (p : Drawing) (j row column : ℕ) → row < ROWS → any_to test p j (ROWS * column + row) ≡ list_any test (routes_to p j row column)

@@ -17,7 +17,7 @@ pub(crate) struct Rung<'a> {
     pub number: usize,
 }
 
-/// Whether power comes past a cell.
+/// Whether power gets through a cell to its right end, if `live` says that it comes to its left end.
 fn passes(rung: Rung<'_>, row: usize, column: usize, live: bool) -> bool
     requires number { rung.number < rung.program.now.rungs }
     requires few { rung.program.now.rungs ≤ RUNGS }
@@ -35,7 +35,7 @@ fn passes(rung: Rung<'_>, row: usize, column: usize, live: bool) -> bool
     }
 }
 
-/// Whether power ends at the place `end` on a route past a cell.
+/// Whether power ends at the place `end` on a route to the right end of a cell: at the cell itself, or before it.
 fn ends(rung: Rung<'_>, row: usize, column: usize, live: bool, ended: bool, end: usize) -> bool
     requires number { rung.number < rung.program.now.rungs }
     requires few { rung.program.now.rungs ≤ RUNGS }
@@ -56,7 +56,7 @@ fn ends(rung: Rung<'_>, row: usize, column: usize, live: bool, ended: bool, end:
     }
 }
 
-/// Whether power comes to a place.
+/// Whether power comes to the left end of a place, by the places before it.
 fn is_live(rung: Rung<'_>, at: usize, live: &[bool]) -> bool
     requires number { rung.number < rung.program.now.rungs }
     requires at { at < PLACES }
@@ -109,7 +109,7 @@ fn is_ended(rung: Rung<'_>, at: usize, live: &[bool], ended: &[bool], end: usize
     found
 }
 
-/// The places of a rung to which power comes.
+/// Which places of a rung power comes to.
 pub(crate) fn live_places(rung: Rung<'_>) -> [bool; PLACES]
     requires { rung.number < rung.program.now.rungs }
     ensures { AreAnswers (of_rung is_live rung.entry) rung.entry.program.now rung.entry.number PLACES result }

@@ -31,6 +31,7 @@ pub fn mark_in(marks: &[Mark], rung: usize, row: usize, column: usize) -> Mark
     }
 }
 
+/// The character that a `-` becomes: `=` with power, `.` in a rung that was passed over.
 fn wire_char(evaluated: bool, power: bool) -> u8
     ensures { result ≡ wire_char evaluated power }
 {
@@ -41,6 +42,7 @@ fn wire_char(evaluated: bool, power: bool) -> u8
     }
 }
 
+/// The character that a joint becomes: `#` for `+` and `!` for `|` where power is.
 fn joint_char(mark: Mark, b: u8) -> u8
     ensures { result ≡ joint_char mark b }
 {
@@ -57,6 +59,8 @@ fn joint_char(mark: Mark, b: u8) -> u8
     }
 }
 
+/// The character that one of a cell becomes: its wires by their power, and `[ ]` or `{ }` around a contact, block or coil that is
+/// ON.
 fn cell_char(mark: Mark, front: bool, b: u8) -> u8
     ensures { result ≡ cell_char mark front b }
 {
@@ -81,7 +85,7 @@ pub fn are_dashes(text: &[u8]) -> bool
     text.iter().all(|b| *b == b'-')
 }
 
-/// The character at a place of a line of a rung.
+/// The character that one of a rung's line becomes by the marks of its place.
 fn shown_at(marks: &[Mark], rung: usize, line: usize, text: &[u8], at: usize) -> u8
     requires rung { rung < RUNGS }
     requires line { line < 2 ^ 59 }
@@ -107,7 +111,7 @@ fn shown_at(marks: &[Mark], rung: usize, line: usize, text: &[u8], at: usize) ->
     cell_char(mark, front, b)
 }
 
-/// Adds a line of a rung with its marks.
+/// Adds a line of a rung, with its characters changed by the marks.
 ///
 /// # Errors
 ///

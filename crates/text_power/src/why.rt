@@ -22,6 +22,7 @@ struct Open<'a> {
     output: &'static [u8],
 }
 
+/// The name of what ends power at a cell, and the output of it where it is an instance.
 fn open_at(decls: &Decls, cell: Cell) -> Open<'_>
     ensures name { result.name.now ≡ open_name decls.now cell }
     ensures output { result.output.now ≡ open_output decls.now cell }
@@ -54,6 +55,7 @@ fn open_at(decls: &Decls, cell: Cell) -> Open<'_>
     }
 }
 
+/// What is said after the name of what ends power: the value that keeps it open.
 fn open_reason(cell: Cell) -> &'static [u8]
     ensures { result.now ≡ open_reason cell }
 {
@@ -93,6 +95,7 @@ fn cell_at(rung: Rung<'_>, at: usize) -> Cell
     rung.program.cell(rung.number, at % ROWS, at / ROWS)
 }
 
+/// Adds the line of one place where power ends: its row, its column, its name and the reason.
 fn add_end_line<W: Sink>(
     buffer: &mut TextBuffer,
     rung: Rung<'_>,
@@ -119,6 +122,7 @@ fn add_end_line<W: Sink>(
     add_pieces(buffer, pieces.as_slice(), writer)
 }
 
+/// Adds the line of a place, where power on the routes to a dead coil ends there.
 fn add_end_note<W: Sink>(
     buffer: &mut TextBuffer,
     rung: Rung<'_>,
@@ -140,7 +144,7 @@ fn add_end_note<W: Sink>(
     }
 }
 
-/// Adds where power ends on the routes to a place.
+/// Adds each place where power ends on the routes to a place.
 fn add_end_notes<W: Sink>(
     buffer: &mut TextBuffer,
     rung: Rung<'_>,
@@ -158,7 +162,7 @@ fn add_end_notes<W: Sink>(
     Ok(())
 }
 
-/// The rung of a mark where it was evaluated, and else the one before.
+/// The rung of a mark if it was evaluated, and otherwise the rung `before`: the last evaluated one so far.
 fn later(mark: Mark, rung: usize, before: usize) -> usize
     ensures { result ≡ (if mark.evaluated then rung else before) }
 {
@@ -178,6 +182,7 @@ fn evaluated_above(marks: &[Mark], rung: usize) -> usize
     last
 }
 
+/// Adds that a coil has no power, and each place where power ends on the routes to it.
 fn add_dead_notes<W: Sink>(
     buffer: &mut TextBuffer,
     rung: Rung<'_>,
@@ -210,6 +215,7 @@ fn add_passed_note<W: Sink>(
     add_pieces(buffer, pieces.as_slice(), writer)
 }
 
+/// Adds whether a coil has power; without power where it ends, and of a rung that was passed over which jump did so.
 fn add_power_notes<W: Sink>(
     buffer: &mut TextBuffer,
     rung: Rung<'_>,
@@ -234,6 +240,7 @@ fn add_power_notes<W: Sink>(
     }
 }
 
+/// Adds the begin of the note on a coil: its variable and its place.
 fn add_coil_head<W: Sink>(
     buffer: &mut TextBuffer,
     rung: Rung<'_>,
@@ -258,7 +265,7 @@ fn add_coil_head<W: Sink>(
     add_pieces(buffer, pieces.as_slice(), writer)
 }
 
-/// Adds the notes of one coil.
+/// Adds the note on one coil: its place, and whether it has power.
 fn add_coil_notes<W: Sink>(
     buffer: &mut TextBuffer,
     rung: Rung<'_>,
@@ -276,6 +283,7 @@ fn add_coil_notes<W: Sink>(
     add_power_notes(buffer, rung, at, mark, writer)
 }
 
+/// Adds the note on the cell at a place, where it is a coil of the variable.
 fn add_place_notes<W: Sink>(
     buffer: &mut TextBuffer,
     rung: Rung<'_>,
@@ -295,6 +303,7 @@ fn add_place_notes<W: Sink>(
     }
 }
 
+/// Adds the notes on all coils of the variable in one rung.
 fn add_rung_why<W: Sink>(
     buffer: &mut TextBuffer,
     rung: Rung<'_>,

@@ -5,6 +5,7 @@ use Rattle.diagram_declarations.specs.declared.kind.BlockKind.{BlockKind}
 use Rattle.diagram_declarations.specs.declared.kind.BlockKind.TheVariants.{Ton}
 use Rattle.std.specs.Prelude.{⊤}
 use Rattle.std.specs.Borrow.{Bor}
+use Rattle.std.proofs.lemmas.Option.{get_or_from_slice_get}
 use Rattle.csv.specs.declared.reader.Reader.{Reader}
 use Rattle.io_text.specs.Left.{Fields, Left, TakesFirst}
 use Rattle.scan_signals.specs.declared.block.Stored.{Stored}
@@ -193,23 +194,16 @@ read_stuck_at item can all xs more ys i before n x o rows old new a c b h is t c
 -- ---- what has no record
 
 set_other : {B : Type 0} (ys : List B) (i k : ℕ) (y : B) → i ≢ k → slice_get (set ys i y) k ≡ slice_get ys k
-set_other [] i k y h = refl
 set_other (b ∷ ys) zero zero y h = absurd (h refl)
-set_other (b ∷ ys) zero (suc k) y h = refl
-set_other (b ∷ ys) (suc i) zero y h = refl
 set_other (b ∷ ys) (suc i) (suc k) y h = set_other ys i k y (λ e. h (ap suc e))
-
-pub get_some : {A : Type 0} (xs : List A) (i : ℕ) (x d : A) → slice_get xs i ≡ Some x → get_or xs i d ≡ x
-get_some [] i x d e = cc
-get_some (a ∷ xs) zero x d e = cc
-get_some (a ∷ xs) (suc i) x d e = get_some xs i x d e
+set_other _ _ _ y h = refl
 
 -- a value that is set belongs to an item with a record
 pub told_set : (v : Version) (instances : List Instance) (ys zs : List Stored) (i : ℕ) (x : Instance) (y : Stored) → AreTold v instances ys → has_record v (new_block x.kind) ≡ true
     → x ≡ get_or instances i x → zs ≡ set ys i y → AreTold v instances zs
 told_set v instances ys zs i x y told holds e z = λ k j here lacks.
     let other : i ≢ k = λ same.
-    let found : get_or instances i x ≡ j = ap (λ n. get_or instances n x) same ∙ get_some instances k j x here in
+    let found : get_or instances i x ≡ j = ap (λ n. get_or instances n x) same ∙ get_or_from_slice_get instances k j x here in
     let bad : true ≡ false = sym holds ∙ ap (λ (n : Instance). has_record v (new_block n.kind)) (e ∙ found) ∙ lacks in cc in
     ap (λ l. slice_get l k) z ∙ set_other ys i k y other ∙ told k j here lacks
 

@@ -16,9 +16,6 @@ use Rattle.io_text.specs.Text.{bit_text, is_on}
 use Rattle.text_state.specs.Item.{IsBlockRecord}
 use Rattle.text_state.specs.StateText.{block_record}
 
-pub some_same : {A : Type 0} {x y : A} → Some x ≡ Some y → x ≡ y
-some_same e = cc
-
 abbrev pub timer_fields : List ℕ → Bool → Bool → List ℕ → Bool → Fields
 timer_fields name l r start q = codes "timer" ∷ name ∷ bit_text l ∷ bit_text r ∷ start ∷ bit_text q ∷ []
 

@@ -4,12 +4,13 @@ use Rattle.std.specs.List.{count_by, filter, range_with_len}
 use Rattle.std.proofs.lemmas.List.{append-nil}
 use Rattle.std.proofs.lemmas.List.Elements.{filter-append}
 use Rattle.std.proofs.lemmas.List.Sums.{count_by_more_no, count_by_more_yes}
+use Rattle.std.proofs.lemmas.Option.{same_Some}
 use Rattle.diagram_program.specs.declared.site.Site.{Site}
 use Rattle.diagram_program.specs.Program.{Drawing, cell_in, has_memory, memories_of}
 use Rattle.diagram_program.specs.Sheet.{blank_site}
 use Rattle.text_state.specs.StateText.{memory_places}
 use Rattle.text_state.specs.Parts.{memory_places_before}
-use Rattle.text_state.proofs.Items.{some_same}
+use Rattle.diagram_program.proofs.Ranges.{range_more}
 
 abbrev here : Drawing → ℕ → Bool
 here p n = has_memory (cell_in p n)
@@ -17,17 +18,11 @@ here p n = has_memory (cell_in p n)
 abbrev remembers : Site → Bool
 remembers s = has_memory s.cell
 
-range_with_len-suc : (a n : ℕ) → range_with_len a (suc n) ≡ range_with_len a n ++ (a + n) ∷ []
-range_with_len-suc a zero = let e : a ≡ a + 0 = omega arith in ap (λ x. x ∷ []) e
-range_with_len-suc a (suc n) =
-    let e : (a + 1) + n ≡ a + suc n = omega arith in
-    ap (λ xs. a ∷ xs) (range_with_len-suc (a + 1) n ∙ ap (λ x. range_with_len (a + 1) n ++ x ∷ []) e)
-
 -- the places before the next one, and that one where it has a memory
 one_more : (p : Drawing) (n : ℕ) → memory_places_before p (suc n) ≡ memory_places_before p n ++ filter (here p) (n ∷ [])
 one_more p n =
     let last : 0 + n ≡ n = omega arith in
-    ap (filter (here p)) (range_with_len-suc 0 n) ∙ filter-append (here p) (range_with_len 0 n) ((0 + n) ∷ [])
+    ap (filter (here p)) (range_more 0 n) ∙ filter-append (here p) (range_with_len 0 n) ((0 + n) ∷ [])
     ∙ ap (λ x. memory_places_before p n ++ filter (here p) (x ∷ [])) last
 
 pub place_there : (p : Drawing) (n : ℕ) → here p n ≡ true → memory_places_before p (suc n) ≡ memory_places_before p n ++ n ∷ []
@@ -86,7 +81,7 @@ one_not p n e = rw (add-one n) (place_not p n e)
 -- ---- each of these places is before the bound
 
 get_push : (xs : List ℕ) (n i x : ℕ) → slice_get (xs ++ n ∷ []) i ≡ Some x → (slice_get xs i ≡ Some x) ⊎ (n ≡ x)
-get_push [] n zero x e = inr (some_same e)
+get_push [] n zero x e = inr (same_Some _ _ e)
 get_push [] n (suc i) x e = cc
 get_push (a ∷ xs) n zero x e = inl e
 get_push (a ∷ xs) n (suc i) x e = get_push xs n i x e

@@ -6,7 +6,7 @@ use Rattle.std.specs.Char.{is_ascii_alphabetic}
 use Rattle.std.specs.Int.{w16}
 use Rattle.std.specs.Prelude.{FitsSigned}
 use Rattle.std.specs.Str.Parse.{AllDigits}
-use Rattle.std.proofs.lemmas.Bool.{ne_eqb}
+use Rattle.std.proofs.lemmas.Bool.{ne_eqb, and_parts}
 use Rattle.std.proofs.lemmas.Fmt.{decimal_is_IsNumeral}
 use Rattle.std.proofs.lemmas.Str.Parse.{digit_from_value}
 use Rattle.csv.specs.Reading.{strip_bom}
@@ -38,21 +38,17 @@ plain_byte test comma quote first second b h =
     let other : (k : ℕ) → test k ≡ false → (b == k) ≡ false = λ k no. ne_eqb b k (λ e. let bad : true ≡ false = sym h ∙ ap test e ∙ no in cc) in
     rw (other 44 comma, other 34 quote, other 13 first, other 10 second) refl
 
-both : (a b : Bool) → (a && b) ≡ true → (a ≡ true) × (b ≡ true)
-both true b h = (refl, h)
-both false b h = let bad : true ≡ false = sym h in cc
-
 bytes_plain : (bs : List ℕ) → list_all is_name_byte bs ≡ true → IsPlainField bs
 bytes_plain [] h = refl
 bytes_plain (b ∷ bs) h =
-    let q = both (is_name_byte b) (list_all is_name_byte bs) h in
+    let q = and_parts (is_name_byte b) (list_all is_name_byte bs) h in
     rw (plain_byte is_name_byte refl refl refl refl b q.0) (bytes_plain bs q.1)
 
 name_plain : (name : List ℕ) → is_name name ≡ true → IsPlainField name
 name_plain [] h = refl
 name_plain (b ∷ bs) h =
-    let form = both ((is_ascii_alphabetic b || b == 95) && list_all is_name_byte bs) _ h in
-    let q = both (is_ascii_alphabetic b || b == 95) (list_all is_name_byte bs) form.0 in
+    let form = and_parts ((is_ascii_alphabetic b || b == 95) && list_all is_name_byte bs) _ h in
+    let q = and_parts (is_ascii_alphabetic b || b == 95) (list_all is_name_byte bs) form.0 in
     rw (plain_byte (λ c. is_ascii_alphabetic c || c == 95) refl refl refl refl b q.0) (bytes_plain bs q.1)
 
 digit_plain : (c : ℕ) → 48 ≤ c → c ≤ 57 → needs_byte default_writer c ≡ false

@@ -1,6 +1,7 @@
 -- Records tell the state: two states with the same records are one.
 use Rattle.std.proofs.Common.{◌≡◌, ◌<◌, ◌∙◌, ◌^◌, ◌∷◌, ◌++◌, inl, inr, [], if◌then◌else◌, ℕ, suc, Bool, true, false, List, Ok, Err, Some, refl, sym, ap, ap₂, subst, arith, drop, get_or, length, slice_get, take}
 use Rattle.std.proofs.lemmas.Fmt.{decimal_injective, signed_decimal_injective}
+use Rattle.std.proofs.lemmas.Option.{same_Some}
 use Rattle.io_text.specs.Left.{Fields}
 use Rattle.io_text.specs.Text.{bit_text, records_of}
 use Rattle.text_state.specs.declared.fault.StateFault.TheVariants as fault
@@ -18,7 +19,6 @@ use Rattle.text_state.specs.StateText.{AreTold, IsStateOf, block_record, memory_
 use Rattle.text_state.specs.declared.version.Version.{Version}
 use Rattle.text_state.specs.declared.version.Version.TheVariants.{Second}
 use Rattle.text_state.proofs.Heads.{begins, moment_same, told_second, version_same}
-use Rattle.text_state.proofs.Items.{some_same}
 use Rattle.text_state.proofs.Segments.{block_count, blocks_in, can_hold, in_parts, memories_count, memories_in, memory_count, value_count, values_of}
 
 -- ---- one record
@@ -55,12 +55,7 @@ block_same name moment (Counter l z q) (Counter l2 z2 q2) m k h j e =
     rw (last, value, on) refl
 block_same name moment (Bistable q) (Bistable q2) m k h j e =
     ap (λ b. Bistable b) (bit_same q q2 (field_same 2 (block_record name (Bistable q)) (block_record name (Bistable q2)) e))
-block_same name moment (Timer l r n q) (Counter l2 z2 q2) m k h j e = cc
-block_same name moment (Timer l r n q) (Bistable q2) m k h j e = cc
-block_same name moment (Counter l z q) (Timer l2 r2 n2 q2) m k h j e = cc
-block_same name moment (Counter l z q) (Bistable q2) m k h j e = cc
-block_same name moment (Bistable q) (Timer l2 r2 n2 q2) m k h j e = cc
-block_same name moment (Bistable q) (Counter l2 z2 q2) m k h j e = cc
+block_same name moment _ _ m k h j e = cc
 
 -- ---- lists of them
 
@@ -100,7 +95,7 @@ stored_same v p s t ok fine m told known true i x y z has e f g same =
     let may = can_hold p t s.moment fine m i x z e g in
     block_same x.name s.moment y z ok.standing.small (can_shape x.kind s.moment y can ∙ sym (can_shape x.kind s.moment z may)) (can_possible x.kind s.moment y can) (can_possible x.kind s.moment z may) (same refl)
 stored_same v p s t ok fine m told known false i x y z lacks e f g same =
-    some_same (sym f ∙ told i x e lacks ∙ sym (known i x e lacks) ∙ g)
+    same_Some _ _ (sym f ∙ told i x e lacks ∙ sym (known i x e lacks) ∙ g)
 
 -- ---- the state
 

@@ -3,6 +3,7 @@ use Rattle.std.proofs.Common.{◌≡◌, ◌≢◌, ◌+◌, ◌∙◌, ◌++◌
 use Rattle.std.specs.Prelude.{filter, zip, ⊤}
 use Rattle.std.proofs.lemmas.Bool.{cases_Bool}
 use Rattle.std.proofs.lemmas.List.{length-map, take_at}
+use Rattle.std.proofs.lemmas.Option.{same_Some}
 use Rattle.diagram_declarations.specs.declared.decls.Instance.{Instance}
 use Rattle.diagram_program.specs.Program.{Drawing, memories_of}
 use Rattle.io_text.specs.Left.{Fields}
@@ -32,9 +33,6 @@ pub record IsCut {A B : Type 0} (has : A → Bool) (item : A → B → Fields) (
   pub there : slice_get ys at ≡ Some y
   pub cut : each (some has item) xs ys ≡ each (some has item) (take at xs) ys ++ item x y ∷ more
 
-some_same : {A : Type 0} {x y : A} → Some x ≡ Some y → x ≡ y
-some_same e = cc
-
 pub each_cut : {A B : Type 0} (has : A → Bool) (item : A → B → Fields) (xs : List A) (ys : List B) (at : ℕ) (x : A) → slice_get xs at ≡ Some x → has x ≡ true → length ys ≡ length xs
     → IsCut has item xs ys at x
 each_cut has item [] ys at x e holds h = cc
@@ -43,7 +41,7 @@ each_cut has item (a ∷ xs) (b ∷ ys) zero x e holds h = record {
   y = b;
   more = each (some has item) xs ys;
   there = refl;
-  cut = ap (λ (z : _). some has item z b ++ each (some has item) xs ys) (some_same e) ∙ ap (λ t. (if t then item x b ∷ [] else []) ++ each (some has item) xs ys) holds;
+  cut = ap (λ (z : _). some has item z b ++ each (some has item) xs ys) (same_Some _ _ e) ∙ ap (λ t. (if t then item x b ∷ [] else []) ++ each (some has item) xs ys) holds;
 }
 each_cut has item (a ∷ xs) (b ∷ ys) (suc at) x e holds h =
     let r = each_cut has item xs ys at x e holds (omega (arith, h)) in
@@ -172,7 +170,7 @@ block_count p t ok =
 -- each instance of a state stores what it can
 kind_at : (instances : List Instance) (i : ℕ) (x : Instance) → slice_get instances i ≡ Some x → slice_get (map (λ (j : Instance). j.kind) instances) i ≡ Some x.kind
 kind_at [] i x e = cc
-kind_at (j ∷ js) zero x e = ap (λ (k : Instance). Some k.kind) (some_same e)
+kind_at (j ∷ js) zero x e = ap (λ (k : Instance). Some k.kind) (same_Some _ _ e)
 kind_at (j ∷ js) (suc i) x e = kind_at js i x e
 
 pub can_hold : (p : Drawing) (t : Standing) (m : ℕ) → IsStateOf p t → t.moment ≡ m → (i : ℕ) (x : Instance) (z : Stored)

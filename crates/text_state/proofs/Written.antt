@@ -1,5 +1,6 @@
 -- The records of items that are written one after the other.
 use Rattle.std.proofs.Common.{◌≡◌, ◌∙◌, ◌+◌, ◌<◌, ◌++◌, ◌∷◌, [], ℕ, suc, zero, List, Some, sym, ap, ap₂, refl, arith, length, get_or, take, drop, slice_get, add-one}
+use Rattle.std.proofs.lemmas.Option.{same_Some}
 use Rattle.io_text.specs.Left.{Fields}
 use Rattle.text_state.specs.StateText.{item_records}
 use Rattle.text_state.specs.Parts.{each}
@@ -11,14 +12,11 @@ use Rattle.io_text.proofs.Commas.{lines_text-append}
 use Rattle.text_state.proofs.ItemByItem.{one}
 use Rattle.text_state.proofs.Segments.{blocks_in, in_parts, memories_in, values_of}
 
-some_same : {A : Type 0} {x y : A} → Some x ≡ Some y → x ≡ y
-some_same e = cc
-
 next_record : {A B : Type 0} (item : A → B → Fields) (xs : List A) (ys : List B) (i : ℕ) (x : A) (y : B) → i < length xs → x ≡ get_or xs i x → slice_get ys i ≡ Some y
     → each (one item) (take (suc i) xs) ys ≡ each (one item) (take i xs) ys ++ item x y ∷ []
 next_record item [] ys i x y h e g = absurd (omega (arith, h))
 next_record item (a ∷ xs) [] i x y h e g = cc
-next_record item (a ∷ xs) (b ∷ ys) zero x y h e g = ap₂ (λ p q. item p q ∷ []) (sym e) (some_same g)
+next_record item (a ∷ xs) (b ∷ ys) zero x y h e g = ap₂ (λ p q. item p q ∷ []) (sym e) (same_Some _ _ g)
 next_record item (a ∷ xs) (b ∷ ys) (suc i) x y h e g = ap (λ l. item a b ∷ l) (next_record item xs ys i x y (omega (arith, h)) e g)
 
 -- one record more
@@ -30,7 +28,7 @@ one_written item xs ys i x y h e g = rw (add-one i) (next_record item xs ys i x 
 pub each_apart : {A B : Type 0} (item : A → B → Fields) (xs more : List A) (ys : List B) (x : A) (y : B) → slice_get ys (length xs) ≡ Some y
     → each (one item) (xs ++ x ∷ more) ys ≡ each (one item) xs ys ++ item x y ∷ each (one item) more (drop (suc (length xs)) ys)
 each_apart item [] more [] x y g = cc
-each_apart item [] more (b ∷ ys) x y g = ap (λ z. item x z ∷ each (one item) more ys) (some_same g)
+each_apart item [] more (b ∷ ys) x y g = ap (λ z. item x z ∷ each (one item) more ys) (same_Some _ _ g)
 each_apart item (a ∷ xs) more [] x y g = cc
 each_apart item (a ∷ xs) more (b ∷ ys) x y g = ap (λ l. item a b ∷ l) (each_apart item xs more ys x y g)
 

@@ -7,7 +7,7 @@ ghost use Rattle.text_state.specs.Named.{AreNamed};
 use diagram_declarations::{Instance, Var};
 use diagram_program::Program;
 
-// Looks at each name for its contract: letters, digits and underscores need no quotes in a text.
+/// The names of variables need no quotes in a record: they have letters, digits and underscores. Each is looked at for its contract.
 fn named_vars(vars: &[Var])
     ensures { AreNamed (λ v. v.name) vars.now }
 {
@@ -16,6 +16,7 @@ fn named_vars(vars: &[Var])
     }
 }
 
+/// The names of instances need no quotes in a record.
 fn named_instances(instances: &[Instance])
     ensures { AreNamed (λ i. i.name) instances.now }
 {
@@ -33,7 +34,7 @@ pub fn reads_back(program: &Program)
     named_instances(program.decls().instances());
 }
 
-/// A text is that of one state at most.
+/// No text is that of two states.
 pub fn one_state()
     ensures { (p : Drawing) → TellsOneState p }
 {}

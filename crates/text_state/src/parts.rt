@@ -192,7 +192,7 @@ fn read_blocks(
     Ok(last)
 }
 
-/// Reads the records of all variables, memories and instances, and finds that none follow.
+/// Reads the records of all variables, memories and instances, and makes sure that no other record follows.
 pub(crate) fn read_parts(
     version: Version,
     program: &Program,

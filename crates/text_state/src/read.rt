@@ -1,4 +1,4 @@
-//! The reading of a state.
+//! The reading of a state: its version, its moment, and all other records.
 
 ghost use Rattle.std.specs.Prelude.{◌≡◌, ◌<◌, ◌^◌, List, ⊤, IfOk};
 ghost use Rattle.io_text.specs.Left.{Fields, IsPlain, Left};
@@ -19,7 +19,7 @@ use io_text::{Records, next, read_from};
 use scan_cycle::{Memory, State};
 use std::alloc::{AllocError, Global};
 
-/// The version in the next record, where that tells one.
+/// The version in the next record, if that is a record of one.
 fn next_version(
     records: &mut Records<'_>,
     row: &mut ByteRecord,
@@ -35,7 +35,7 @@ fn next_version(
     Ok(read_version(row))
 }
 
-/// The moment in the next record, where that tells one.
+/// The moment in the next record, if that is a record of one.
 fn next_moment(records: &mut Records<'_>, row: &mut ByteRecord) -> Result<Option<u64>, AllocError>
     requires { IsPlain records.old }
     ensures plain { IfOk result (λ _. IsPlain records.new) }
@@ -48,7 +48,7 @@ fn next_moment(records: &mut Records<'_>, row: &mut ByteRecord) -> Result<Option
     Ok(read_moment(row))
 }
 
-/// Reads all records into a fresh state.
+/// Reads all records of a text into a fresh state.
 fn read_records(
     program: &Program,
     records: &mut Records<'_>,

@@ -1,4 +1,4 @@
-//! One record of a state.
+//! One record of a state: whether it is what would be written, and what it says.
 
 ghost use Rattle.std.specs.Prelude.{◌≡◌, ◌≢◌, ◌<◌, ◌≤◌, ◌*◌, ◌^◌, ◌∷◌, [], ℕ, Bool, None, IfSome, false, true, codes};
 ghost use Rattle.csv.specs.Records.{field_at, fields_of};
@@ -18,6 +18,7 @@ use io_text::{bit_field, is_on, is_record, read_number, read_signed};
 use itoa::Buffer;
 use scan_signals::Stored;
 
+/// Whether a record says this moment.
 fn is_moment(field: &[u8], row: &ByteRecord) -> bool
     ensures same { result ≡ true → fields_of row.now ≡ codes "moment" ∷ field.now ∷ [] }
     ensures other { result ≡ false → fields_of row.now ≢ codes "moment" ∷ field.now ∷ [] }
@@ -25,7 +26,7 @@ fn is_moment(field: &[u8], row: &ByteRecord) -> bool
     is_record(row, [b"moment".as_slice(), field].as_slice())
 }
 
-/// The moment that a record tells.
+/// The moment that a record says.
 pub(crate) fn read_moment(row: &ByteRecord) -> Option<u64>
     ensures some { IfSome result (λ n. fields_of row.now ≡ moment_record n) }
     ensures small { IfSome result (λ n. n < 2 ^ 64) }
@@ -44,6 +45,7 @@ pub(crate) fn read_moment(row: &ByteRecord) -> Option<u64>
     }
 }
 
+/// Whether a record gives this variable this value.
 fn is_var(name: &[u8], value: &[u8], row: &ByteRecord) -> bool
     ensures same { result ≡ true → fields_of row.now ≡ codes "var" ∷ name.now ∷ value.now ∷ [] }
     ensures other { result ≡ false → fields_of row.now ≢ codes "var" ∷ name.now ∷ value.now ∷ [] }
@@ -51,7 +53,7 @@ fn is_var(name: &[u8], value: &[u8], row: &ByteRecord) -> bool
     is_record(row, [b"var".as_slice(), name, value].as_slice())
 }
 
-/// The value that a record tells of the variable.
+/// The value that a record gives a variable.
 pub(crate) fn read_var(var: &Var, row: &ByteRecord) -> Option<bool>
     ensures some { IfSome result (λ b. fields_of row.now ≡ var_record var.now b) }
     ensures none { result ≡ None → (b : Bool) → fields_of row.now ≢ var_record var.now b }
@@ -65,6 +67,7 @@ pub(crate) fn read_var(var: &Var, row: &ByteRecord) -> Option<bool>
     None
 }
 
+/// Whether a record gives the edge at this place this memory.
 fn is_memory(rung: &[u8], line: &[u8], column: &[u8], bit: &[u8], row: &ByteRecord) -> bool
     ensures same { result ≡ true → fields_of row.now ≡ codes "memory" ∷ rung.now ∷ line.now ∷ column.now ∷ bit.now ∷ [] }
     ensures other { result ≡ false → fields_of row.now ≢ codes "memory" ∷ rung.now ∷ line.now ∷ column.now ∷ bit.now ∷ [] }
@@ -75,7 +78,7 @@ fn is_memory(rung: &[u8], line: &[u8], column: &[u8], bit: &[u8], row: &ByteReco
     )
 }
 
-/// The value that a record tells of the memory at the place.
+/// The memory that a record gives the edge at a place.
 pub(crate) fn read_memory(place: usize, row: &ByteRecord) -> Option<bool>
     requires { place < PLACES * RUNGS }
     ensures some { IfSome result (λ b. fields_of row.now ≡ memory_record place b) }
@@ -94,6 +97,7 @@ pub(crate) fn read_memory(place: usize, row: &ByteRecord) -> Option<bool>
     None
 }
 
+/// Whether a record says that this timer stores these fields.
 fn is_timer(
     name: &[u8],
     last: &[u8],
@@ -111,6 +115,7 @@ fn is_timer(
     )
 }
 
+/// Whether a record says that this counter stores these fields.
 fn is_counter(name: &[u8], last: &[u8], cv: &[u8], q: &[u8], row: &ByteRecord) -> bool
     ensures same { result ≡ true → fields_of row.now ≡ codes "counter" ∷ name.now ∷ last.now ∷ cv.now ∷ q.now ∷ [] }
     ensures other { result ≡ false → fields_of row.now ≢ codes "counter" ∷ name.now ∷ last.now ∷ cv.now ∷ q.now ∷ [] }
@@ -118,6 +123,7 @@ fn is_counter(name: &[u8], last: &[u8], cv: &[u8], q: &[u8], row: &ByteRecord) -
     is_record(row, [b"counter".as_slice(), name, last, cv, q].as_slice())
 }
 
+/// Whether a record says that this bistable stores this Q.
 fn is_bistable(name: &[u8], q: &[u8], row: &ByteRecord) -> bool
     ensures same { result ≡ true → fields_of row.now ≡ codes "bistable" ∷ name.now ∷ q.now ∷ [] }
     ensures other { result ≡ false → fields_of row.now ≢ codes "bistable" ∷ name.now ∷ q.now ∷ [] }
@@ -133,6 +139,7 @@ fn is_possible(running: bool, start: u64, moment: u64) -> bool
     if running { start <= moment } else { start == 0 }
 }
 
+/// What a record says that a timer stores. A running one can't have started after the moment.
 fn read_timer(name: &[u8], moment: u64, row: &ByteRecord) -> Option<Stored>
     ensures some { IfSome result (λ s. IsBlockRecord name.now (new_block Ton) moment (fields_of row.now) s) }
     ensures none { result ≡ None → (s : Stored) → IsBlockRecord name.now (new_block Ton) moment (fields_of row.now) s → ⊥ }
@@ -165,6 +172,7 @@ fn read_timer(name: &[u8], moment: u64, row: &ByteRecord) -> Option<Stored>
     })
 }
 
+/// What a record says that a counter stores.
 fn read_counter(name: &[u8], row: &ByteRecord) -> Option<Stored>
     ensures some { IfSome result (λ s. (moment : ℕ) → IsBlockRecord name.now (new_block Ctu) moment (fields_of row.now) s) }
     ensures none { result ≡ None → (moment : ℕ) (s : Stored) → IsBlockRecord name.now (new_block Ctu) moment (fields_of row.now) s → ⊥ }
@@ -182,6 +190,7 @@ fn read_counter(name: &[u8], row: &ByteRecord) -> Option<Stored>
     Some(Stored::Counter { last, cv, q })
 }
 
+/// What a record says that a bistable stores.
 fn read_bistable(name: &[u8], row: &ByteRecord) -> Option<Stored>
     ensures some { IfSome result (λ s. (moment : ℕ) → IsBlockRecord name.now (new_block Sr) moment (fields_of row.now) s) }
     ensures none { result ≡ None → (moment : ℕ) (s : Stored) → IsBlockRecord name.now (new_block Sr) moment (fields_of row.now) s → ⊥ }
@@ -193,7 +202,7 @@ fn read_bistable(name: &[u8], row: &ByteRecord) -> Option<Stored>
     Some(Stored::Bistable { q })
 }
 
-/// What a record tells that the instance stores at the moment.
+/// What a record says that an instance stores, if that is possible at the moment.
 pub(crate) fn read_block(instance: &Instance, moment: u64, row: &ByteRecord) -> Option<Stored>
     ensures some { IfSome result (λ s. CanStore instance.now.kind moment s) }
     ensures record { IfSome result (λ s. fields_of row.now ≡ block_record instance.now.name s) }

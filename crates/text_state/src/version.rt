@@ -20,7 +20,7 @@ pub enum Version {
 }
 
 impl Version {
-    /// Whether an instance of this kind has a record.
+    /// Whether a text of this version has records for instances of this kind: version 1 has none for bistables.
     pub(crate) fn has_record(self, kind: BlockKind) -> bool
         ensures { result ≡ has_record self (new_block kind) }
     {
@@ -32,7 +32,7 @@ impl Version {
     }
 }
 
-/// The version that a record tells.
+/// The version that a record says.
 pub(crate) fn read_version(row: &ByteRecord) -> Option<Version>
     ensures some { IfSome result (λ v. fields_of row.now ≡ version_record v) }
     ensures none { result ≡ None → (v : version.Version) → fields_of row.now ≢ version_record v }

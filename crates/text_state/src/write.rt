@@ -1,4 +1,4 @@
-//! The writing of a state.
+//! The writing of a state, record by record.
 
 ghost use Rattle.std.specs.Prelude.{◌≡◌, ◌*◌, ◌<◌, ◌∷◌, [], codes, length};
 ghost use Rattle.diagram_program.specs.declared.geometry.TheConstants.{PLACES, RUNGS};
@@ -22,12 +22,14 @@ use itoa::Buffer;
 use scan_cycle::State;
 use scan_signals::Stored;
 
+/// Adds the record of the version that is written.
 fn add_version<W: Sink>(buffer: &mut TextBuffer, writer: &mut W) -> Result<(), WriteFault>
     ensures { Sends (W.log writer.old) (W.log writer.new) buffer.old buffer.new result (line_text (version_record Second)) }
 {
     add_line(buffer, b"version", [b"2".as_slice()].as_slice(), writer)
 }
 
+/// Adds the record of the moment, in ms.
 fn add_moment<W: Sink>(
     buffer: &mut TextBuffer,
     moment: u64,
@@ -40,6 +42,7 @@ fn add_moment<W: Sink>(
     add_line(buffer, b"moment", [moment].as_slice(), writer)
 }
 
+/// Adds the record of a variable by its fields.
 fn var_line<W: Sink>(
     buffer: &mut TextBuffer,
     name: &[u8],
@@ -51,6 +54,7 @@ fn var_line<W: Sink>(
     add_line(buffer, b"var", [name, value].as_slice(), writer)
 }
 
+/// Adds the record of a variable.
 fn add_var<W: Sink>(
     buffer: &mut TextBuffer,
     var: &Var,
@@ -62,6 +66,7 @@ fn add_var<W: Sink>(
     var_line(buffer, var.name.bytes(), bit_field(value), writer)
 }
 
+/// Adds the records of all variables, in order of declaration.
 fn add_vars<W: Sink>(
     buffer: &mut TextBuffer,
     vars: &[Var],
@@ -77,6 +82,7 @@ fn add_vars<W: Sink>(
     Ok(())
 }
 
+/// Adds the record of an edge's memory, by the rung, row and column of its cell.
 fn add_memory<W: Sink>(
     buffer: &mut TextBuffer,
     place: usize,
@@ -98,6 +104,7 @@ fn add_memory<W: Sink>(
     )
 }
 
+/// Adds the records of all memories, in the order of their cells.
 fn add_memories<W: Sink>(
     buffer: &mut TextBuffer,
     program: &Program,
@@ -118,6 +125,7 @@ fn add_memories<W: Sink>(
     Ok(())
 }
 
+/// Adds the record of a timer by its fields.
 fn timer_line<W: Sink>(
     buffer: &mut TextBuffer,
     name: &[u8],
@@ -137,6 +145,7 @@ fn timer_line<W: Sink>(
     )
 }
 
+/// Adds the record of a timer.
 fn add_timer<W: Sink>(
     buffer: &mut TextBuffer,
     name: &[u8],
@@ -154,6 +163,7 @@ fn add_timer<W: Sink>(
     timer_line(buffer, name, last, running, start, q, writer)
 }
 
+/// Adds the record of a counter by its fields.
 fn counter_line<W: Sink>(
     buffer: &mut TextBuffer,
     name: &[u8],
@@ -167,6 +177,7 @@ fn counter_line<W: Sink>(
     add_line(buffer, b"counter", [name, last, cv, q].as_slice(), writer)
 }
 
+/// Adds the record of a counter.
 fn add_counter<W: Sink>(
     buffer: &mut TextBuffer,
     name: &[u8],
@@ -182,6 +193,7 @@ fn add_counter<W: Sink>(
     counter_line(buffer, name, bit_field(last), cv, bit_field(q), writer)
 }
 
+/// Adds the record of a bistable by its fields.
 fn bistable_line<W: Sink>(
     buffer: &mut TextBuffer,
     name: &[u8],
@@ -193,6 +205,7 @@ fn bistable_line<W: Sink>(
     add_line(buffer, b"bistable", [name, q].as_slice(), writer)
 }
 
+/// Adds the record of a bistable.
 fn add_bistable<W: Sink>(
     buffer: &mut TextBuffer,
     name: &[u8],
@@ -204,6 +217,7 @@ fn add_bistable<W: Sink>(
     bistable_line(buffer, name, bit_field(q), writer)
 }
 
+/// Adds the record of what an instance stores.
 fn add_block<W: Sink>(
     buffer: &mut TextBuffer,
     name: &[u8],
@@ -224,6 +238,7 @@ fn add_block<W: Sink>(
     }
 }
 
+/// Adds the records of all instances, in order of declaration.
 fn add_blocks<W: Sink>(
     buffer: &mut TextBuffer,
     instances: &[Instance],
@@ -240,7 +255,7 @@ fn add_blocks<W: Sink>(
     Ok(())
 }
 
-/// Adds the records that follow the moment.
+/// Adds the records after the moment: those of the variables, the memories and the instances.
 fn add_items<W: Sink>(
     buffer: &mut TextBuffer,
     program: &Program,
@@ -255,6 +270,7 @@ fn add_items<W: Sink>(
     add_blocks(buffer, program.decls().instances(), state, writer)
 }
 
+/// Adds the whole text of a state: version, moment, variables, memories, instances.
 fn add_state<W: Sink>(
     buffer: &mut TextBuffer,
     program: &Program,

@@ -3,12 +3,13 @@ use Rattle.std.proofs.Common.{◌≡◌, ◌∙◌, ◌+◌, ◌<◌, ◌^◌, �
 use Rattle.std.specs.Prelude.{IfSome, bytes_eq}
 use Rattle.std.specs.Cmp.Lexicographic.{same_text}
 use Rattle.std.proofs.lemmas.List.{length-map}
+use Rattle.std.proofs.lemmas.Option.{same_Some}
+use Rattle.std.proofs.lemmas.Bool.{and_parts}
 use Rattle.csv.specs.Records.{field_at}
 use Rattle.io_text.specs.Left.{Fields}
 use Rattle.io_text.specs.Text.{bit_text, is_on}
 use Rattle.text_trace.specs.Room.{bits_of}
 use Rattle.text_trace.specs.Stimulus.{IsRow, are_bits, is_bit}
-use Rattle.text_trace.proofs.Lists.{all_first, some_same}
 
 bit_is_bit : (b : Bool) → is_bit (Some (bit_text b)) ≡ true
 bit_is_bit true = refl
@@ -27,7 +28,7 @@ on_text f false false e g h = let bad : false ≡ true = h in cc
 pub bits_same : (fs : Fields) → are_bits fs ≡ true → map bit_text (map (λ f. is_on (Some f)) fs) ≡ fs
 bits_same [] h = refl
 bits_same (f ∷ fs) h =
-    let parts = all_first (is_bit (Some f)) (are_bits fs) h in
+    let parts = and_parts (is_bit (Some f)) (are_bits fs) h in
     let first : bit_text (is_on (Some f)) ≡ f = on_text f _ _ refl refl parts.0 in
     ap (λ x. x ∷ map bit_text (map (λ g. is_on (Some g)) fs)) first ∙ ap (λ l. f ∷ l) (bits_same fs parts.1)
 
@@ -68,7 +69,7 @@ pub is_row : (columns : List ℕ) (fs : Fields) (field : List ℕ) (m : ℕ) →
 unfolding field_at
 is_row columns [] field m h e a d s = absurd (omega (arith, h))
 is_row columns (f ∷ fs) field m h e a d s = record {
-  same = ap (λ x. x ∷ fs) (some_same e ∙ d) ∙ ap (λ l. decimal m ∷ l) (sym (bits_same fs a));
+  same = ap (λ x. x ∷ fs) (same_Some _ _ e ∙ d) ∙ ap (λ l. decimal m ∷ l) (sym (bits_same fs a));
   count = omega (arith, h, length-map fs (λ g. is_on (Some g)));
   small = s;
 }

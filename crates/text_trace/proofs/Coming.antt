@@ -6,6 +6,8 @@ use Rattle.std.specs.Cmp.Lexicographic.{same_text}
 use Rattle.std.specs.Str.Parse.{digits_value}
 use Rattle.std.proofs.lemmas.Fmt.{decimal_is_IsNumeral}
 use Rattle.std.proofs.lemmas.List.{length-map}
+use Rattle.std.proofs.lemmas.Bool.{lt-ltb, ltb-true, eq-eqb, eqb-true, and_parts}
+use Rattle.std.proofs.lemmas.Option.{same_Some}
 use Rattle.csv.specs.Records.{fields_of}
 use Rattle.csv.specs.declared.reader.Reader.{Reader}
 use Rattle.io_text.specs.Left.{Fields, Left, TakesFirst}
@@ -18,7 +20,6 @@ use Rattle.text_trace.specs.Room.{bits_of}
 use Rattle.text_trace.specs.Simulation.{IsNoRow}
 use Rattle.text_trace.specs.Stimulus.{IsRow, are_bits}
 use Rattle.text_trace.proofs.Bits.{bits_same, texts_are_bits}
-use Rattle.text_trace.proofs.Lists.{all_first, some_same}
 
 -- ---- the moment of a record
 
@@ -26,50 +27,36 @@ same_bytes : (xs : List ℕ) → bytes_eq xs xs ≡ true
 same_bytes [] = refl
 same_bytes (x ∷ xs) = grind (arith, same_bytes xs)
 
-less : (a b : ℕ) → a < b → nat_lt a b ≡ true
-less a b h = grind arith
-
-pub is_less : (a b : ℕ) → nat_lt a b ≡ true → a < b
-is_less a b h = grind arith
-
-same_number : (a b : ℕ) → a ≡ b → (a == b) ≡ true
-same_number a b e = grind arith
-
-is_same_number : (a b : ℕ) → (a == b) ≡ true → a ≡ b
-is_same_number a b e = grind arith
-
 number_is : (m : ℕ) → m < 2 ^ 64 → is_number (decimal m) ≡ true
 number_is m small =
     let value = (decimal_is_IsNumeral m small).1 in
-    rw (value, same_bytes (decimal m), less m (2 ^ 64) small) refl
+    rw (value, same_bytes (decimal m), lt-ltb m (2 ^ 64) small) refl
 
 test_true : (a b c : Bool) (m : ℕ) → a ≡ true → b ≡ true → c ≡ true → (if a && b && c then Some m else None) ≡ Some m
 test_true a b c m e f g = rw (e, f, g) refl
 
 tests_of : (a b c : Bool) (m n : ℕ) → (if a && b && c then Some m else None) ≡ Some n → (a ≡ true) × (b ≡ true) × (c ≡ true) × (m ≡ n)
-tests_of true true true m n e = (refl, refl, refl, some_same e)
-tests_of true true false m n e = cc
-tests_of true false c m n e = cc
-tests_of false b c m n e = cc
+tests_of true true true m n e = (refl, refl, refl, same_Some _ _ e)
+tests_of _ _ _ m n e = cc
 
 pub moment_row : (columns : List ℕ) (fs : Fields) (m : ℕ) (bits : List Bool) → IsRow columns fs m bits → moment_in (length columns) fs ≡ Some m
 moment_row columns fs m bits h =
     let value = (decimal_is_IsNumeral m h.small).1 in
     let there : moment_in (length columns) (decimal m ∷ map bit_text bits) ≡ Some (digits_value 10 (decimal m)) =
     test_true (length (map bit_text bits) == length columns) (are_bits (map bit_text bits)) (is_number (decimal m)) (digits_value 10 (decimal m))
-    (same_number (length (map bit_text bits)) (length columns) (length-map bits bit_text ∙ h.count)) (texts_are_bits bits) (number_is m h.small) in
+    (eq-eqb (length (map bit_text bits)) (length columns) (length-map bits bit_text ∙ h.count)) (texts_are_bits bits) (number_is m h.small) in
     ap (moment_in (length columns)) h.same ∙ there ∙ ap (λ n. Some n) value
 
 pub row_of_moment : (columns : List ℕ) (fs : Fields) (m : ℕ) → moment_in (length columns) fs ≡ Some m → IsRow columns fs m (bits_of fs)
 row_of_moment columns [] m e = cc
 row_of_moment columns (f ∷ fs) m e =
     let parts = tests_of (length fs == length columns) (are_bits fs) (is_number f) (digits_value 10 f) m e in
-    let number = all_first (bytes_eq f (decimal (digits_value 10 f))) (nat_lt (digits_value 10 f) (2 ^ 64)) parts.2 in
+    let number = and_parts (bytes_eq f (decimal (digits_value 10 f))) (nat_lt (digits_value 10 f) (2 ^ 64)) parts.2 in
     let text : f ≡ decimal m = same_text f (decimal (digits_value 10 f)) (sym number.0) ∙ ap decimal parts.3 in
-    let small : digits_value 10 f < 2 ^ 64 = is_less (digits_value 10 f) (2 ^ 64) number.1 in
+    let small : digits_value 10 f < 2 ^ 64 = ltb-true (digits_value 10 f) (2 ^ 64) number.1 in
     record {
       same = ap (λ x. x ∷ fs) text ∙ ap (λ l. decimal m ∷ l) (sym (bits_same fs parts.1));
-      count = length-map fs (λ g. _) ∙ is_same_number (length fs) (length columns) parts.0;
+      count = length-map fs (λ g. _) ∙ eqb-true (length fs) (length columns) parts.0;
       small = subst (λ n. n < 2 ^ 64) parts.3 small;
     }
 

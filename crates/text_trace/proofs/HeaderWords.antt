@@ -1,20 +1,21 @@
 -- The words of a header, one after the other.
-use Rattle.std.proofs.Common.{◌≡◌, ◌∙◌, ◌-◌, ◌<◌, ◌≤◌, ◌++◌, ◌∷◌, ◌==◌, ◌||◌, [], ℕ, suc, zero, Bool, true, false, List, Some, All, inl, refl, sym, subst, ap, ap₂, arith, codes, drop, take, length, map, slice_get, get_or}
+use Rattle.std.proofs.Common.{◌≡◌, ◌∙◌, ◌-◌, ◌<◌, ◌≤◌, ◌++◌, ◌∷◌, ◌==◌, [], ℕ, suc, zero, true, false, List, Some, inl, refl, sym, subst, ap, ap₂, arith, codes, drop, take, length, map, slice_get, get_or}
 use Rattle.std.specs.List.{AllByRecursion, Contains, IsDistinct, list_any}
 use Rattle.std.proofs.lemmas.Cmp.{nat_eq_equiv}
 use Rattle.std.proofs.lemmas.List.{map-append}
 use Rattle.std.proofs.lemmas.Map.Views.{Contains-from_any, exact_unsigned_eq}
+use Rattle.std.proofs.lemmas.Bool.{or_parts}
+use Rattle.std.proofs.lemmas.Option.{same_Some}
 use Rattle.csv.specs.Records.{field_at}
 use Rattle.io_text.specs.Left.{Fields}
 use Rattle.diagram_declarations.specs.Decls.{Declared}
 use Rattle.text_trace.specs.Simulation.{IsBadHeader}
 use Rattle.text_trace.specs.Stimulus.{IsHeader, input_named}
-use Rattle.text_trace.proofs.Lists.{some_same}
 
 pub is_headed : (fs : Fields) → field_at fs 0 ≡ Some (codes "moment") → fs ≡ codes "moment" ∷ drop 1 fs
 unfolding field_at
 is_headed [] e = cc
-is_headed (f ∷ fs) e = ap (λ x. x ∷ fs) (some_same e)
+is_headed (f ∷ fs) e = ap (λ x. x ∷ fs) (same_Some _ _ e)
 
 headed : (fs : Fields) (word : List ℕ) → slice_get fs 0 ≡ Some word → word ≡ codes "moment" → (field_at fs 0 ≡ Some (codes "moment") → ⊥) → ⊥
 unfolding field_at
@@ -22,7 +23,7 @@ headed [] word there same e = cc
 headed (f ∷ fs) word there same e = e (there ∙ ap Some same)
 
 pub bad_first : (d : Declared) (fs : Fields) (rows : List Fields) → (field_at fs 0 ≡ Some (codes "moment") → ⊥) → IsBadHeader d (fs ∷ rows)
-bad_first d fs rows e = inl (λ (r, here, (word, there, same)). headed fs word (subst (λ (x : Fields). slice_get x 0 ≡ Some word) (sym (some_same here)) there) same e)
+bad_first d fs rows e = inl (λ (r, here, (word, there, same)). headed fs word (subst (λ (x : Fields). slice_get x 0 ≡ Some word) (sym (same_Some _ _ here)) there) same e)
 
 -- the words name the inputs at these places, no two the same
 pub record AreColumns (d : Declared) (words : List (List ℕ)) (columns : List ℕ) : Type 0 where
@@ -66,10 +67,6 @@ take_one [] i w e = cc
 take_one (x ∷ words) zero w e = let same : x ≡ w = cc in ap (λ z. z ∷ []) same
 take_one (x ∷ words) (suc i) w e = ap (λ l. x ∷ l) (take_one words i w e)
 
-first_false : (a b : Bool) → (a || b) ≡ false → (a ≡ false) × (b ≡ false)
-first_false true b e = let bad : true ≡ false = e in cc
-first_false false b e = (refl, e)
-
 apart_more : (x : ℕ) (xs : List ℕ) (y : ℕ) → AllByRecursion (λ z. (x == z) ≡ false) xs → (x == y) ≡ false → AllByRecursion (λ z. (x == z) ≡ false) (xs ++ y ∷ [])
 apart_more x [] y h e = (e, tt)
 apart_more x (z ∷ xs) y h e = (h.0, apart_more x xs y h.1 e)
@@ -79,7 +76,7 @@ distinct_more : (xs : List ℕ) (y : ℕ) → IsDistinct (λ (a b : ℕ). a == b
 unfolding IsDistinct
 distinct_more [] y h e = (tt, tt)
 distinct_more (x ∷ xs) y h e =
-    let parts = first_false (y == x) (list_any (λ c. y == c) xs) e in
+    let parts = or_parts (y == x) (list_any (λ c. y == c) xs) e in
     (apart_more x xs y h.0 (nat_eq_equiv.symm x y ∙ parts.0), distinct_more xs y h.1 parts.1)
 
 -- one word more
@@ -93,9 +90,3 @@ columns_more d words columns i w place h here named fresh = record {
       ∙ sym (map-append Some columns (place ∷ []));
   distinct = distinct_more columns place h.distinct fresh;
 }
-
-pub all_more : (P : ℕ → Type 0) (xs : List ℕ) (x : ℕ) → All P xs → P x → All P (xs ++ x ∷ [])
-all_more P [] x h p zero e k = p
-all_more P [] x h p (suc i) e k = absurd (omega (arith, k))
-all_more P (y ∷ xs) x h p zero e k = h 0 e (omega arith)
-all_more P (y ∷ xs) x h p (suc i) e k = all_more P xs x (λ j f g. h (suc j) f (omega (arith, g))) p i e (omega (arith, k))

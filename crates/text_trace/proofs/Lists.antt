@@ -1,16 +1,14 @@
 -- Lists that are gone through place by place.
-use Rattle.std.proofs.Common.{◌≡◌, ◌∙◌, ◌+◌, ◌-◌, ◌<◌, ◌≤◌, ◌++◌, ◌∷◌, ◌&&◌, [], ℕ, suc, zero, Bool, true, false, List, Some, if◌then◌else◌, inl, inr, refl, sym, ap, arith, length, add-one, get_or, set, take, drop, take_all, map, slice_get}
+use Rattle.std.proofs.Common.{◌≡◌, ◌∙◌, ◌+◌, ◌-◌, ◌<◌, ◌≤◌, ◌++◌, ◌∷◌, [], ℕ, suc, zero, Bool, true, false, List, Some, if◌then◌else◌, inl, inr, refl, sym, ap, arith, length, add-one, get_or, set, take, drop, take_all, map, slice_get}
 use Rattle.std.specs.Prelude.{slice_index_or}
 use Rattle.std.specs.List.{count_by, filter, list_all}
-use Rattle.std.proofs.lemmas.Bool.{cases_Bool}
+use Rattle.std.proofs.lemmas.Bool.{cases_Bool, and_from, and_right, and_parts}
 use Rattle.std.proofs.lemmas.List.Sums.{count_by_more_no, count_by_more_yes}
+use Rattle.std.proofs.lemmas.Option.{same_Some}
 use Rattle.diagram_declarations.specs.declared.decls.Var.{Var}
 use Rattle.text_trace.specs.Stimulus.{given_by}
 use Rattle.text_trace.specs.Room.{chosen}
 use Rattle.text_trace.specs.Trace.{values_of}
-
-pub some_same : {A : Type 0} {x y : A} → Some x ≡ Some y → x ≡ y
-some_same e = cc
 
 -- ---- counts
 
@@ -47,20 +45,10 @@ some_at [] i x h e = absurd (omega (arith, h))
 some_at (a ∷ xs) zero x h e = ap (λ y. Some y) (sym e)
 some_at (a ∷ xs) (suc i) x h e = some_at xs i x (omega (arith, h)) e
 
-pub there_at : {A : Type 0} (xs : List A) (i : ℕ) (d : A) → i < length xs → slice_get xs i ≡ Some (get_or xs i d)
-there_at [] i d h = absurd (omega (arith, h))
-there_at (a ∷ xs) zero d h = refl
-there_at (a ∷ xs) (suc i) d h = there_at xs i d (omega (arith, h))
-
 pub there_or : {A : Type 0} (xs : List A) (i : ℕ) (d : A) → i < length xs → slice_get xs i ≡ Some (slice_index_or xs i d)
 there_or [] i d h = absurd (omega (arith, h))
 there_or (a ∷ xs) zero d h = refl
 there_or (a ∷ xs) (suc i) d h = there_or xs i d (omega (arith, h))
-
-pub within : {A : Type 0} (xs : List A) (i : ℕ) (x : A) → slice_get xs i ≡ Some x → i < length xs
-within [] i x e = cc
-within (a ∷ xs) zero x e = omega arith
-within (a ∷ xs) (suc i) x e = let h = within xs i x e in omega (arith, h)
 
 -- ---- marked elements
 
@@ -68,9 +56,9 @@ pub chosen_more : {A : Type 0} (marks : List Bool) (xs : List A) (i : ℕ) (m : 
     → chosen (take (suc i) marks) xs ≡ chosen (take i marks) xs ++ (if m then x ∷ [] else [])
 chosen_more [] xs i m x e g = cc
 chosen_more (b ∷ marks) [] i m x e g = cc
-chosen_more (true ∷ marks) (y ∷ xs) zero true x e g = ap (λ z. z ∷ []) (some_same g)
-chosen_more (true ∷ marks) (y ∷ xs) zero false x e g = let bad : true ≡ false = some_same e in cc
-chosen_more (false ∷ marks) (y ∷ xs) zero true x e g = let bad : false ≡ true = some_same e in cc
+chosen_more (true ∷ marks) (y ∷ xs) zero true x e g = ap (λ z. z ∷ []) (same_Some _ _ g)
+chosen_more (true ∷ marks) (y ∷ xs) zero false x e g = let bad : true ≡ false = same_Some _ _ e in cc
+chosen_more (false ∷ marks) (y ∷ xs) zero true x e g = let bad : false ≡ true = same_Some _ _ e in cc
 chosen_more (false ∷ marks) (y ∷ xs) zero false x e g = refl
 chosen_more (true ∷ marks) (y ∷ xs) (suc i) m x e g = ap (λ l. y ∷ l) (chosen_more marks xs i m x e g)
 chosen_more (false ∷ marks) (y ∷ xs) (suc i) m x e g = chosen_more marks xs i m x e g
@@ -79,8 +67,8 @@ pub chosen_apart : {A : Type 0} (marks : List Bool) (xs : List A) (i : ℕ) (x :
     → chosen marks xs ≡ chosen (take i marks) xs ++ x ∷ chosen (drop (suc i) marks) (drop (suc i) xs)
 chosen_apart [] xs i x e g = cc
 chosen_apart (b ∷ marks) [] i x e g = cc
-chosen_apart (true ∷ marks) (y ∷ xs) zero x e g = ap (λ z. z ∷ chosen marks xs) (some_same g)
-chosen_apart (false ∷ marks) (y ∷ xs) zero x e g = let bad : false ≡ true = some_same e in cc
+chosen_apart (true ∷ marks) (y ∷ xs) zero x e g = ap (λ z. z ∷ chosen marks xs) (same_Some _ _ g)
+chosen_apart (false ∷ marks) (y ∷ xs) zero x e g = let bad : false ≡ true = same_Some _ _ e in cc
 chosen_apart (true ∷ marks) (y ∷ xs) (suc i) x e g = ap (λ l. y ∷ l) (chosen_apart marks xs i x e g)
 chosen_apart (false ∷ marks) (y ∷ xs) (suc i) x e g = chosen_apart marks xs i x e g
 
@@ -109,7 +97,7 @@ pub given_more : (columns : List ℕ) (bits image : List Bool) (i c : ℕ) (b : 
     → given_by (take (suc i) columns) bits image ≡ set (given_by (take i columns) bits image) c b
 given_more [] bits image i c b e g = cc
 given_more (k ∷ columns) [] image i c b e g = cc
-given_more (k ∷ columns) (a ∷ bits) image zero c b e g = rw (some_same e, some_same g) refl
+given_more (k ∷ columns) (a ∷ bits) image zero c b e g = rw (same_Some _ _ e, same_Some _ _ g) refl
 given_more (k ∷ columns) (a ∷ bits) image (suc i) c b e g = given_more columns bits (set image k a) i c b e g
 
 pub given_next : (columns : List ℕ) (bits image : List Bool) (i c : ℕ) (b : Bool) → slice_get columns i ≡ Some c → slice_get bits i ≡ Some b
@@ -118,23 +106,12 @@ given_next columns bits image i c b e g = rw (add-one i) (given_more columns bit
 
 -- ---- a test of all
 
-both : (a b : Bool) → a ≡ true → b ≡ true → (a && b) ≡ true
-both a b e f = rw (e, f) refl
-
-one_not : (a b : Bool) → b ≡ false → (a && b) ≡ false
-one_not true b e = e
-one_not false b e = refl
-
-pub all_first : (a b : Bool) → (a && b) ≡ true → (a ≡ true) × (b ≡ true)
-all_first true b e = (refl, e)
-all_first false b e = let bad : false ≡ true = e in cc
-
 pub all_more : {A : Type 0} (p : A → Bool) (xs : List A) (i : ℕ) (x : A) → slice_get xs i ≡ Some x → p x ≡ true → list_all p (take i xs) ≡ true → list_all p (take (suc i) xs) ≡ true
 all_more p [] i x e h k = cc
-all_more p (a ∷ xs) zero x e h k = both (p a) true (ap p (some_same e) ∙ h) refl
-all_more p (a ∷ xs) (suc i) x e h k = let parts = all_first (p a) (list_all p (take i xs)) k in both (p a) (list_all p (take (suc i) xs)) parts.0 (all_more p xs i x e h parts.1)
+all_more p (a ∷ xs) zero x e h k = and_from (p a) true (ap p (same_Some _ _ e) ∙ h) refl
+all_more p (a ∷ xs) (suc i) x e h k = let parts = and_parts (p a) (list_all p (take i xs)) k in and_from (p a) (list_all p (take (suc i) xs)) parts.0 (all_more p xs i x e h parts.1)
 
 pub all_not : {A : Type 0} (p : A → Bool) (xs : List A) (i : ℕ) (x : A) → slice_get xs i ≡ Some x → p x ≡ false → list_all p xs ≡ false
 all_not p [] i x e h = cc
-all_not p (a ∷ xs) zero x e h = let first : p a ≡ false = ap p (some_same e) ∙ h in rw first refl
-all_not p (a ∷ xs) (suc i) x e h = one_not (p a) (list_all p xs) (all_not p xs i x e h)
+all_not p (a ∷ xs) zero x e h = let first : p a ≡ false = ap p (same_Some _ _ e) ∙ h in rw first refl
+all_not p (a ∷ xs) (suc i) x e h = and_right (p a) (list_all p xs) (all_not p xs i x e h)

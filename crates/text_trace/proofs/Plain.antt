@@ -5,6 +5,8 @@ use Rattle.std.proofs.lemmas.List.{length-map}
 use Rattle.std.specs.Cmp.Lexicographic.{same_text}
 use Rattle.std.specs.Str.Parse.{AllDigits, digits_value}
 use Rattle.std.proofs.lemmas.Fmt.{decimal_is_IsNumeral}
+use Rattle.std.proofs.lemmas.Bool.{ltb-true, and_parts}
+use Rattle.std.proofs.lemmas.Option.{same_Some, slice_get_within}
 use Rattle.diagram_declarations.specs.Decls.{Declared}
 use Rattle.diagram_program.specs.Program.{Drawing}
 use Rattle.csv.specs.Records.{fields_of}
@@ -20,8 +22,6 @@ use Rattle.text_trace.specs.Simulation.{Follows, FollowsEvery}
 use Rattle.text_trace.specs.Steps.{Ends}
 use Rattle.text_trace.specs.Stimulus.{IsHeader, are_bits, input_named}
 use Rattle.text_trace.specs.Trace.{Recorded}
-use Rattle.text_trace.proofs.Coming.{is_less}
-use Rattle.text_trace.proofs.Lists.{all_first, some_same, within}
 
 held_none : (bits : List (List ℕ)) (from to : Option ℕ) → held_between 0 bits from to ≡ []
 held_none bits None to = refl
@@ -65,13 +65,13 @@ told_plain : (recorded : Recorded) (p : Drawing) (s : Standing) (rows : List Fie
     → Follows recorded p s rows t old new r → told_of (filled 0 rows) r ≡ r
 told_plain recorded p s rows t old new (Ok n) h = refl
 told_plain recorded p s rows t old new (Err (fault.BadRow n)) (inl (k, taken, (fields, at, bad), few, same)) =
-    ap (λ x. Err (fault.BadRow x)) (ap (in_file (filled 0 rows)) same ∙ plain_number rows k (within rows (k + 1) fields at) ∙ sym same)
+    ap (λ x. Err (fault.BadRow x)) (ap (in_file (filled 0 rows)) same ∙ plain_number rows k (slice_get_within rows (k + 1) fields at) ∙ sym same)
 told_plain recorded p s rows t old new (Err (fault.BadRow n)) (inr (same, bad, kept)) =
     ap (λ x. Err (fault.BadRow x)) (ap (in_file (filled 0 rows)) same ∙ plain_first rows ∙ sym same)
 told_plain recorded p s rows t old new (Err (fault.UnknownName n)) (same, bad, kept) =
     ap (λ x. Err (fault.UnknownName x)) (ap (in_file (filled 0 rows)) same ∙ plain_first rows ∙ sym same)
 told_plain recorded p s rows t old new (Err (fault.MomentBack n)) (k, taken, (fields, at, bad), few, same) =
-    ap (λ x. Err (fault.MomentBack x)) (ap (in_file (filled 0 rows)) same ∙ plain_number rows k (within rows (k + 1) fields at) ∙ sym same)
+    ap (λ x. Err (fault.MomentBack x)) (ap (in_file (filled 0 rows)) same ∙ plain_number rows k (slice_get_within rows (k + 1) fields at) ∙ sym same)
 told_plain recorded p s rows t old new (Err (fault.TooLong n)) (taken, more, same) =
     ap (λ x. Err (fault.TooLong x)) (ap (in_file (filled 0 rows)) same ∙ plain_number rows recorded.most more ∙ sym same)
 told_plain recorded p s rows t old new (Err fault.Write) h = refl
@@ -97,9 +97,9 @@ no_number_if : (b : Bool) → is_number (codes "moment") ≡ b → b ≡ false
 no_number_if false e = refl
 no_number_if true e =
     let n = digits_value 10 (codes "moment") in
-    let parts = all_first (bytes_eq (codes "moment") (decimal n)) (nat_lt n (2 ^ 64)) e in
+    let parts = and_parts (bytes_eq (codes "moment") (decimal n)) (nat_lt n (2 ^ 64)) e in
     let text : codes "moment" ≡ decimal n = same_text (codes "moment") (decimal n) (sym parts.0) in
-    let digits : AllDigits 10 (codes "moment") = subst (AllDigits 10) (sym text) (decimal_is_IsNumeral n (is_less n (2 ^ 64) parts.1)).0.1 in
+    let digits : AllDigits 10 (codes "moment") = subst (AllDigits 10) (sym text) (decimal_is_IsNumeral n (ltb-true n (2 ^ 64) parts.1)).0.1 in
     absurd (omega (arith, digits.0))
 
 no_number : is_number (codes "moment") ≡ false
@@ -124,13 +124,13 @@ header_width d fields columns h =
 -- It is the first record, and what comes after it is what the source gives.
 pub header_at : (every : ℕ) (rows : List Fields) (fields : Fields) → slice_get rows 0 ≡ Some fields → slice_get (filled every rows) 0 ≡ Some (numbered 1 fields)
 header_at every [] fields e = cc
-header_at every (r ∷ rows) fields e = ap (λ x. Some (numbered 1 x)) (some_same e)
+header_at every (r ∷ rows) fields e = ap (λ x. Some (numbered 1 x)) (same_Some _ _ e)
 
 pub header_comes : (d : Declared) (columns : List ℕ) (f : Filling) (every : ℕ) (rows : List Fields) (fields : Fields) → slice_get rows 0 ≡ Some fields → IsHeader d fields columns
     → Left f.records (drop 1 rows) → f.is_ahead ≡ false → f.number ≡ 2 → f.every ≡ every → fields_of f.last ≡ fields → Comes columns f (drop 1 (filled every rows))
 header_comes d columns f every [] fields e header left unread number time last = cc
 header_comes d columns f every (r ∷ rows) fields e header left unread number time last =
-    let same = some_same e in
+    let same = same_Some _ _ e in
     let width = header_width d r columns (subst (λ x. IsHeader d x columns) (sym same) header) in (
       rows,
       left,

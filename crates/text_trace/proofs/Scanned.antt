@@ -45,13 +45,11 @@ pub steps_of : {T : Type 0} (recorded : Recorded) (p : Drawing) (columns : List 
     → ScansTo recorded p number s moment inputs t old new r → StepsTo recorded p columns number s fields t old new r
 steps_of recorded p columns number s fields moment bits inputs t old new (Ok u) row given h =
     (h.0, step_of recorded p columns s fields moment bits inputs t h.0 row given h.1, h.2)
-steps_of recorded p columns number s fields moment bits inputs t old new (Err (fault.BadRow n)) row given h = absurd h
-steps_of recorded p columns number s fields moment bits inputs t old new (Err (fault.UnknownName n)) row given h = absurd h
 steps_of recorded p columns number s fields moment bits inputs t old new (Err (fault.MomentBack n)) row given h = (h.0, (moment, bits, row, h.1), h.2)
-steps_of recorded p columns number s fields moment bits inputs t old new (Err (fault.TooLong n)) row given h = absurd h
 steps_of recorded p columns number s fields moment bits inputs t old new (Err fault.Write) row given h =
     (h.0, step_of recorded p columns s fields moment bits inputs t h.0 row given h.1, h.2)
 steps_of recorded p columns number s fields moment bits inputs t old new (Err fault.Memory) row given h = h
+steps_of recorded p columns number s fields moment bits inputs t old new _ row given h = absurd h
 
 -- what holds anyway holds of a good result
 pub on_ok : {T E : Type 0} (r : Result T E) (P : Type 0) → P → OnOk r P

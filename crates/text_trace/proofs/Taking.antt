@@ -3,6 +3,7 @@ use Rattle.std.proofs.Common.{◌≡◌, ◌+◌, ◌-◌, ◌<◌, ◌≤◌, �
 use Rattle.std.specs.Prelude.{⊤, Bool, true, false}
 use Rattle.std.specs.Borrow.{Bor}
 use Rattle.std.proofs.lemmas.List.{length-map}
+use Rattle.std.proofs.lemmas.Option.{same_Some, slice_get_within}
 use Rattle.csv.specs.Records.{fields_of}
 use Rattle.csv.specs.declared.reader.Reader.{Reader}
 use Rattle.diagram_program.specs.Program.{Drawing}
@@ -21,7 +22,6 @@ use Rattle.text_trace.specs.Simulation.{IsTaken, Runs}
 use Rattle.text_trace.specs.Steps.{Ends, IsGoing, StepsTo}
 use Rattle.text_trace.specs.Stimulus.{IsHeader}
 use Rattle.text_trace.specs.Trace.{IsStep, Recorded}
-use Rattle.text_trace.proofs.Lists.{some_same, within}
 
 -- ---- the records that a reader has left
 
@@ -67,12 +67,12 @@ one_taken columns all k taken f h =
 
 fields_at : (all : List Numbered) (i : ℕ) (r : Numbered) → slice_get all i ≡ Some r → slice_get (all_fields all) i ≡ Some r.fields
 fields_at [] i r e = cc
-fields_at (a ∷ all) zero r e = ap (λ (x : Numbered). Some x.fields) (some_same e)
+fields_at (a ∷ all) zero r e = ap (λ (x : Numbered). Some x.fields) (same_Some _ _ e)
 fields_at (a ∷ all) (suc i) r e = fields_at all i r e
 
 number_at : (all : List Numbered) (i : ℕ) (r : Numbered) → slice_get all i ≡ Some r → get_or (map (λ (r : Numbered). r.number) all) i 1 ≡ r.number
 number_at [] i r e = cc
-number_at (a ∷ all) zero r e = ap (λ (x : Numbered). x.number) (some_same e)
+number_at (a ∷ all) zero r e = ap (λ (x : Numbered). x.number) (same_Some _ _ e)
 number_at (a ∷ all) (suc i) r e = number_at all i r e
 
 in_file_at : (all : List Numbered) (k : ℕ) (r : Numbered) → slice_get all (k + 1) ≡ Some r → in_file all (k + 2) ≡ r.number
@@ -85,8 +85,8 @@ in_file_at all k r e =
 runs_within : (recorded : Recorded) (p : Drawing) (columns : List ℕ) (s : Standing) (rows : List Fields) (k : ℕ) (text piece : List ℕ) (t : Standing)
     → Runs recorded p columns s rows k text piece t → k < length rows
 unfolding Runs
-runs_within recorded p columns s rows zero text piece t ((r, here, good), none, same, start) = within rows 0 r here
-runs_within recorded p columns s rows (suc k) text piece t (before, last, u, runs, cut, (r, here, step)) = within rows (suc k) r here
+runs_within recorded p columns s rows zero text piece t ((r, here, good), none, same, start) = slice_get_within rows 0 r here
+runs_within recorded p columns s rows (suc k) text piece t (before, last, u, runs, cut, (r, here, step)) = slice_get_within rows (suc k) r here
 
 runs_more : (recorded : Recorded) (p : Drawing) (columns : List ℕ) (s : Standing) (rows : List Fields) (k : ℕ) (text piece more : List ℕ) (t u : Standing) (r : Fields)
     → Runs recorded p columns s rows k text piece t → slice_get rows (k + 1) ≡ Some r → IsStep recorded p columns t r u more
@@ -198,7 +198,7 @@ pub going_many : (recorded : Recorded) (p : Drawing) (columns : List ℕ) (s t :
     → row ≡ taken.number → Ends recorded p s all t a b (Err (fault.TooLong row))
 going_many recorded p columns s t all taken a b number row f g h takes count same =
     let (r, at, told, gives, comes) = one_taken columns all (number + 1) taken g takes in
-    let more = within (all_fields all) (number + 1) r.fields (fields_at all (number + 1) r at) in
+    let more = slice_get_within (all_fields all) (number + 1) r.fields (fields_at all (number + 1) r at) in
     let place : in_file all (recorded.most + 2) ≡ r.number = subst (λ k. in_file all (k + 2) ≡ r.number) count (in_file_at all number r at) in (
       Err (fault.TooLong (recorded.most + 2)),
       (

@@ -1,11 +1,10 @@
 -- What a trace can have beside its outputs (the profile): of a variable its value, of an instance its output, the elapsed time or the count.
-use Rattle.std.specs.Prelude.{◌++◌, ◌-◌, min, ℕ, List, true, false, None, Some, codes, decimal, slice_get, slice_index_or}
+use Rattle.std.specs.Prelude.{◌++◌, ℕ, List, false, None, Some, codes, decimal, slice_get, slice_index_or}
 use Rattle.std.specs.Fmt.{signed_decimal}
 use Rattle.diagram_declarations.specs.declared.kind.BlockKind.TheVariants.{Ton}
 use Rattle.diagram_declarations.specs.Decls.{Declared, instance_name, output_suffix, var_name}
 use Rattle.scan_signals.specs.declared.block.Stored.{Stored}
-use Rattle.scan_signals.specs.declared.block.Stored.TheVariants.{Timer}
-use Rattle.scan_signals.specs.Blocks.{new_block, q_of}
+use Rattle.scan_signals.specs.Blocks.{elapsed, new_block, q_of}
 use Rattle.scan_signals.specs.Histories.{cv_of}
 use Rattle.io_text.specs.Text.{bit_text}
 use Rattle.scan_cycle.specs.Standing.{Standing}
@@ -25,11 +24,6 @@ stored_of s n = slice_index_or s.held.kept.blocks n (new_block Ton)
 
 abbrev pub preset_of : Declared → ℕ → ℕ
 preset_of d n = elim (slice_get d.instances n) [ None ↦ 0 | Some i ↦ i.preset ]
-
--- The elapsed time of a timer at a moment (ET): how long it has run, at most PT; 0 where it doesn't run.
-abbrev pub elapsed : ℕ → ℕ → Stored → ℕ
-elapsed preset now (Timer last true start q) = min (now - start) preset
-elapsed preset now other = 0
 
 -- Its field in the row of a state.
 abbrev pub column_text : Declared → Standing → Column → List ℕ

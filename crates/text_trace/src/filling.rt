@@ -19,7 +19,7 @@ pub(crate) struct Filling<'a> {
     pub(crate) records: Records<'a>,
     /// The time from a record to the next one that is held, in ms; 0 where there is none in between.
     pub(crate) every: u64,
-    /// The record of the file that was taken last, the header at first.
+    /// The record of the file that was taken last, initially the header.
     pub(crate) last: ByteRecord,
     /// Its moment, where it is good.
     pub(crate) from: Option<u64>,
@@ -44,7 +44,7 @@ pub(crate) struct Taken {
     pub(crate) moment: Option<u64>,
 }
 
-/// The records of a text, of which none is taken yet.
+/// The records of a text, before the first is taken.
 pub(crate) fn filling_from<'a>(alloc: Global, text: &'a [u8], every: u64) -> Filling<'a>
     ensures fresh { IsFresh result }
     ensures every { result.every ≡ every }
@@ -64,7 +64,7 @@ pub(crate) fn filling_from<'a>(alloc: Global, text: &'a [u8], every: u64) -> Fil
     }
 }
 
-/// How many records are between two, where they are good.
+/// How many scans are made between two records of the file, one each `every` ms; none if a moment is missing or goes back.
 fn count_between(every: u64, from: Option<u64>, to: Option<u64>) -> u64
     ensures count { result ≡ count_in every from to }
     ensures small { unwrap_or from 0 + every * result < 2 ^ 64 }
@@ -99,7 +99,7 @@ fn read_ahead(columns: &[usize], filling: &mut Filling<'_>) -> Result<bool, Allo
     Ok(true)
 }
 
-/// Takes the record that was read ahead.
+/// Takes the record of the file that was read ahead.
 fn take_ahead(columns: &[usize], filling: &mut Filling<'_>) -> Taken
     requires sound { IsSound columns.now filling.old }
     requires read { filling.old.is_ahead ≡ true }
@@ -121,7 +121,7 @@ fn take_ahead(columns: &[usize], filling: &mut Filling<'_>) -> Taken
     taken
 }
 
-/// Takes the next record in between.
+/// Takes the next record between two of the file: their inputs are held, at the next moment.
 fn take_between(columns: &[usize], filling: &mut Filling<'_>) -> Taken
     requires sound { IsSound columns.now filling.old }
     requires read { filling.old.is_ahead ≡ true }

@@ -43,7 +43,7 @@ fn input_named(decls: &Decls, word: &[u8]) -> Option<usize>
     Some(inputs_before(vars, number))
 }
 
-/// The place of the input that a field names.
+/// The place among the inputs of the one that a field names.
 fn input_at(decls: &Decls, row: &ByteRecord, number: usize) -> Option<usize>
     requires { number < length (fields_of row.now) }
     ensures place { result ≡ input_named decls.now (slice_index_or (fields_of row.now) number []) }
@@ -55,6 +55,7 @@ fn input_at(decls: &Decls, row: &ByteRecord, number: usize) -> Option<usize>
     }
 }
 
+/// Whether the header names the input at this place among the inputs.
 fn is_named(columns: &[usize], place: usize) -> bool
     ensures { result ≡ list_any (λ c. place == c) columns.now }
 {
@@ -71,7 +72,7 @@ fn is_moment(row: &ByteRecord) -> bool
     }
 }
 
-/// The places of the inputs that a header names.
+/// The places among the inputs of those that the header names, one for each column after the moment.
 pub(crate) fn columns(
     alloc: Global,
     decls: &Decls,

@@ -18,7 +18,7 @@ pub struct Film<'a> {
 pub(crate) enum Recording<'a> {
     /// A row of the trace.
     Trace,
-    /// A row of the trace that has these columns behind the outputs.
+    /// A row of the trace that has these columns after the outputs.
     Watched(&'a [Column]),
     /// A drawing.
     Film(Film<'a>),

@@ -13,6 +13,7 @@ use io_text::{is_on, read_number};
 use scan_cycle::State;
 use std::alloc::{AllocError, Global};
 
+/// Whether a field of a record is `0` or `1`.
 fn is_bit(row: &ByteRecord, number: usize) -> bool
     ensures { result ≡ is_bit (field_at (fields_of row.now) number) }
 {
@@ -51,7 +52,7 @@ pub(crate) fn read_row(columns: &[usize], row: &ByteRecord) -> Option<u64>
     read_number(field)
 }
 
-/// The numbers of the inputs, in order of declaration.
+/// The numbers of the variables that are inputs, in order of declaration.
 pub(crate) fn inputs(alloc: Global, vars: &[Var]) -> Result<Vec<usize>, AllocError>
     ensures picked { IfOk result (λ numbers. ArePicked is_input vars.now numbers.items) }
     ensures count { IfOk result (λ numbers. length numbers.items ≡ count_by is_input vars.now) }
@@ -66,7 +67,7 @@ pub(crate) fn inputs(alloc: Global, vars: &[Var]) -> Result<Vec<usize>, AllocErr
     Ok(numbers)
 }
 
-/// Gives the image the values that the inputs have.
+/// Gives the input image the values that the inputs have in the state.
 pub(crate) fn fill_inputs(inputs: &[usize], state: &State, image: &mut [bool])
     requires { length image.old ≡ length inputs.now }
     ensures { image.new ≡ map (λ n. slice_index_or state.now.held.values n false) inputs.now }

@@ -66,6 +66,7 @@ struct Run<'a> {
     every: u64,
 }
 
+/// How many scans a stimulus may have: fewer in a film, for each scan is a whole drawing.
 fn most(recording: Recording<'_>) -> u64
     ensures value { result ≡ (as_asked recording.entry).most }
     ensures small { result ≤ 1000000 }
@@ -76,7 +77,7 @@ fn most(recording: Recording<'_>) -> u64
     }
 }
 
-/// Writes what stands before the first scan.
+/// Writes what a recording begins with: the header of a trace, or the start of a film or a waveform.
 fn write_head<W: Sink>(
     recording: Recording<'_>,
     program: &Program,
@@ -96,7 +97,7 @@ fn write_head<W: Sink>(
     }
 }
 
-/// A scan with the input image, and then the writing of its row.
+/// Makes a scan with the input image, and writes its row of the trace.
 fn trace_scan<W: Sink>(
     program: &Program,
     moment: u64,
@@ -123,7 +124,7 @@ fn trace_scan<W: Sink>(
     Ok(())
 }
 
-/// A scan with the input image, and then the writing of its row with these columns.
+/// Makes a scan with the input image, and writes its row of the trace with the watched columns.
 fn watch_scan<W: Sink>(
     program: &Program,
     watched: &[Column],
@@ -153,7 +154,7 @@ fn watch_scan<W: Sink>(
     Ok(())
 }
 
-/// A scan with the input image, and the writing of its drawing.
+/// Makes a scan with the input image, and writes its drawing for a film.
 fn draw_scan<W: Sink>(
     run: Run<'_>,
     film: Film<'_>,
@@ -185,7 +186,7 @@ fn draw_scan<W: Sink>(
     }
 }
 
-/// Keeps a state of the same program, without memory.
+/// Keeps a copy of the state in room that was made before.
 fn keep(program: &Program, state: &State, before: &mut State)
     requires fits { Fits program.now state.now }
     requires room { Fits program.now before.old }
@@ -196,7 +197,7 @@ fn keep(program: &Program, state: &State, before: &mut State)
     before.copy_from(state);
 }
 
-/// A scan with the input image, and then the writing of what it has changed.
+/// Makes a scan with the input image, and writes what it changed for a waveform.
 fn wave_scan<W: Sink>(
     run: Run<'_>,
     moment: u64,
@@ -223,7 +224,7 @@ fn wave_scan<W: Sink>(
     Ok(())
 }
 
-/// One record, with the bits of a row: its scan, and the writing of what is recorded of it.
+/// Makes the scan of one record with the bits of its row, and writes what is recorded of it.
 fn step<W: Sink>(
     run: Run<'_>,
     columns: &[usize],
@@ -265,7 +266,7 @@ fn step<W: Sink>(
     }
 }
 
-/// Takes all records after the header, when what stands before the first scan is written.
+/// Takes all records after the header, one scan each, up to the most that a recording may have.
 fn follow_rows<W: Sink>(
     run: Run<'_>,
     columns: &[usize],
@@ -337,7 +338,7 @@ fn follow_records<W: Sink>(
     follow_rows(run, &columns, filling, room, state, writer)
 }
 
-/// What a simulation allocates before its first write, for the program and a state of it.
+/// All that a simulation allocates, before its first write: so none of its scans runs out of memory.
 fn room_for(alloc: Global, program: &Program, state: &State) -> Result<Room, AllocError>
     requires { Fits program.now state.now }
     ensures ready { IfOk result (λ room. IsReady program.now room) }
@@ -362,7 +363,7 @@ fn room_for(alloc: Global, program: &Program, state: &State) -> Result<Room, All
     })
 }
 
-/// Reads a stimulus, and writes what is recorded of its records.
+/// Reads a stimulus, makes its scans, and writes what is recorded of them.
 fn follow<W: Sink>(
     run: Run<'_>,
     state: &mut State,
@@ -429,7 +430,7 @@ pub fn simulate_every<W: Sink>(
     follow(run, state, stimulus, writer)
 }
 
-/// Scans a stimulus as `simulate` does, and writes the trace with these columns behind the outputs. Returns how many scans there were.
+/// Scans a stimulus as `simulate` does, and writes the trace with these columns after the outputs. Returns how many scans there were.
 ///
 /// # Errors
 ///

@@ -1,4 +1,4 @@
-//! The writing of a trace.
+//! The writing of a trace: its header, and a row for each scan.
 
 ghost use Rattle.std.specs.Prelude.{◌≡◌, ◌∷◌, ◌*◌, [], IfOk, OnOk, decimal, false, filter, map, length, slice_index_or};
 ghost use Rattle.io_text.specs.Text.{after_commas, bit_text};
@@ -15,6 +15,7 @@ use itoa::Buffer;
 use scan_cycle::State;
 use std::alloc::{AllocError, Global};
 
+/// Whether a variable is an output, which has a column in each trace.
 fn is_output(var: &Var) -> bool
     ensures { result ≡ is_output var.now }
 {
@@ -42,6 +43,7 @@ pub(crate) fn add_names<W: Sink>(
     Ok(())
 }
 
+/// Adds the header of a trace: the moment and the outputs.
 fn add_header<W: Sink>(
     buffer: &mut TextBuffer,
     program: &Program,
@@ -83,6 +85,7 @@ pub(crate) fn outputs(alloc: Global, vars: &[Var]) -> Result<Vec<usize>, AllocEr
     Ok(numbers)
 }
 
+/// A value as the character `0` or `1`.
 fn bit_byte(value: bool) -> u8
     ensures { result ∷ [] ≡ bit_text value }
 {
@@ -121,6 +124,7 @@ pub(crate) fn add_bits<W: Sink>(
     buffer.add(line, writer)
 }
 
+/// Adds the moment that a row begins with, in ms.
 pub(crate) fn add_moment<W: Sink>(
     buffer: &mut TextBuffer,
     moment: u64,
@@ -132,6 +136,7 @@ pub(crate) fn add_moment<W: Sink>(
     buffer.add(digits.format(moment).as_bytes(), writer)
 }
 
+/// Adds the row of a scan: its moment and the values of the outputs.
 fn add_row<W: Sink>(
     buffer: &mut TextBuffer,
     program: &Program,

@@ -1,6 +1,7 @@
 //! The writing of a trace with columns beside its outputs.
 
 ghost use Rattle.std.specs.Prelude.{◌≡◌, ◌++◌, ◌*◌, [], OnOk, codes, length, map};
+ghost use Rattle.scan_signals.specs.Blocks.{elapsed};
 ghost use Rattle.scan_signals.specs.Histories.{cv_of};
 ghost use Rattle.io_text.specs.Text.{after_commas, bit_text};
 ghost use Rattle.scan_cycle.specs.Standing.{Fits};
@@ -9,7 +10,7 @@ ghost use Rattle.io_text.specs.Log.{Puts};
 ghost use Rattle.io_text.specs.Pieces.{piece_text};
 ghost use Rattle.text_trace.specs.Room.{ArePicked};
 ghost use Rattle.text_trace.specs.Trace.{is_output, watched_header, watched_row};
-ghost use Rattle.text_trace.specs.Watching.{column_name, column_text, elapsed, preset_of, stored_of};
+ghost use Rattle.text_trace.specs.Watching.{column_name, column_text, preset_of, stored_of};
 
 use crate::column::Column;
 use crate::trace::{add_bits, add_moment, add_names};
@@ -19,7 +20,7 @@ use io_text::{Piece, Sink, TextBuffer, WriteFault, add_field, add_pieces};
 use scan_cycle::State;
 use scan_signals::Stored;
 
-/// Adds a name of two parts, after a comma.
+/// Adds the name of a column after a comma: the title of a variable or instance, and what of it is watched.
 fn add_name<'a, W: Sink>(
     buffer: &mut TextBuffer,
     name: &'a [u8],
@@ -52,6 +53,7 @@ fn add_column_name<W: Sink>(
     }
 }
 
+/// Adds the names of all watched columns, a comma before each.
 fn add_column_names<W: Sink>(
     buffer: &mut TextBuffer,
     decls: &Decls,
@@ -66,6 +68,7 @@ fn add_column_names<W: Sink>(
     Ok(())
 }
 
+/// Adds the header of a trace with watched columns after the outputs.
 fn add_watched_header<W: Sink>(
     buffer: &mut TextBuffer,
     program: &Program,
@@ -100,24 +103,13 @@ pub(crate) fn write_watched_header<W: Sink>(
 fn elapsed(decls: &Decls, state: &State, inst: usize) -> u64
     ensures { result ≡ elapsed (preset_of decls.now inst) state.now.moment (stored_of state.now inst) }
 {
-    let Some(instance) = decls.instances().get(inst) else {
-        return 0;
-    };
-    match state.stored(inst) {
-        Stored::Timer {
-            running: true,
-            start,
-            ..
-        } => state
-            .moment()
-            .saturating_sub(start)
-            .min(instance.preset as u64),
-        Stored::Timer { running: false, .. } | Stored::Counter { .. } | Stored::Bistable { .. } =>
-            0,
+    match decls.instances().get(inst) {
+        Some(instance) => state.stored(inst).elapsed(instance.preset, state.moment()),
+        None => 0,
     }
 }
 
-/// What a counter has counted.
+/// The count of a counter, and 0 for any other instance.
 fn count_of(stored: Stored) -> i16
     ensures { result ≡ cv_of stored }
 {
@@ -139,7 +131,7 @@ fn add_number<'a, W: Sink>(
     add_pieces(buffer, pieces.as_slice(), writer)
 }
 
-/// The field of a bit, after a comma.
+/// A bit as a field after a comma: `,1` or `,0`.
 fn bit_after_comma(value: bool) -> &'static [u8]
     ensures { result.now ≡ codes "," ++ bit_text value }
 {
@@ -169,6 +161,7 @@ fn add_column_value<W: Sink>(
     }
 }
 
+/// Adds what all watched columns have in a state, a comma before each.
 fn add_column_values<W: Sink>(
     buffer: &mut TextBuffer,
     decls: &Decls,
@@ -184,6 +177,7 @@ fn add_column_values<W: Sink>(
     Ok(())
 }
 
+/// Adds the row of a scan: its moment, the values of the outputs and what the watched columns have.
 fn add_watched_row<W: Sink>(
     buffer: &mut TextBuffer,
     program: &Program,

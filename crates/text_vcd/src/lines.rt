@@ -23,6 +23,7 @@ pub(crate) enum Lines<'a> {
     Changes(&'a State, &'a State),
 }
 
+/// The name of an instance's output, Q or Q1, as its wire is called.
 fn output_name(decls: &Decls, inst: usize) -> &'static [u8]
     ensures { result.now ≡ output_name decls.now inst }
 {
@@ -45,7 +46,7 @@ fn value_of(state: &State, symbol: Symbol) -> bool
     }
 }
 
-/// Adds a number between its beginning and the end of a line.
+/// Adds a line that ends with a number.
 pub(crate) fn add_number<W: Sink>(
     buffer: &mut TextBuffer,
     begin: &[u8],
@@ -62,7 +63,7 @@ pub(crate) fn add_number<W: Sink>(
     add_pieces(buffer, pieces.as_slice(), writer)
 }
 
-/// Adds the declaration of a wire.
+/// Adds the line that declares a wire, with its code and its name.
 fn add_wire<'a, W: Sink>(
     buffer: &mut TextBuffer,
     begin: &'a [u8],
@@ -82,6 +83,7 @@ fn add_wire<'a, W: Sink>(
     add_pieces(buffer, pieces.as_slice(), writer)
 }
 
+/// Adds the line that begins the scope of an instance, in which its output is declared.
 fn add_scope<W: Sink>(
     buffer: &mut TextBuffer,
     decls: &Decls,
@@ -98,6 +100,7 @@ fn add_scope<W: Sink>(
     add_pieces(buffer, pieces.as_slice(), writer)
 }
 
+/// Adds the declaration of a variable: its code is `v` and its number.
 fn add_var<W: Sink>(
     buffer: &mut TextBuffer,
     decls: &Decls,
@@ -109,6 +112,7 @@ fn add_var<W: Sink>(
     add_wire(buffer, b"$var wire 1 v", var, decls.var_name(var), writer)
 }
 
+/// Adds the declaration of an instance's output: its code is `i` and the number of the instance.
 fn add_output<W: Sink>(
     buffer: &mut TextBuffer,
     decls: &Decls,
@@ -140,6 +144,7 @@ fn add_instance<W: Sink>(
     buffer.add(b"$upscope $end\n", writer)
 }
 
+/// Adds the declaration of a variable or of an instance.
 fn add_declaration<W: Sink>(
     buffer: &mut TextBuffer,
     decls: &Decls,
@@ -154,36 +159,7 @@ fn add_declaration<W: Sink>(
     }
 }
 
-fn add_var_value<W: Sink>(
-    buffer: &mut TextBuffer,
-    var: usize,
-    value: bool,
-    writer: &mut W,
-) -> Result<(), WriteFault>
-    ensures { Sends (W.log writer.old) (W.log writer.new) buffer.old buffer.new result (value_line (Var var) value) }
-{
-    if value {
-        add_number(buffer, b"1v", var as u64, writer)
-    } else {
-        add_number(buffer, b"0v", var as u64, writer)
-    }
-}
-
-fn add_output_value<W: Sink>(
-    buffer: &mut TextBuffer,
-    inst: usize,
-    value: bool,
-    writer: &mut W,
-) -> Result<(), WriteFault>
-    ensures { Sends (W.log writer.old) (W.log writer.new) buffer.old buffer.new result (value_line (Instance inst) value) }
-{
-    if value {
-        add_number(buffer, b"1i", inst as u64, writer)
-    } else {
-        add_number(buffer, b"0i", inst as u64, writer)
-    }
-}
-
+/// Adds the value of a variable or of an instance's output.
 fn add_value<W: Sink>(
     buffer: &mut TextBuffer,
     symbol: Symbol,
@@ -192,12 +168,15 @@ fn add_value<W: Sink>(
 ) -> Result<(), WriteFault>
     ensures { Sends (W.log writer.old) (W.log writer.new) buffer.old buffer.new result (value_line symbol value) }
 {
-    match symbol {
-        Symbol::Var(var) => add_var_value(buffer, var, value, writer),
-        Symbol::Instance(inst) => add_output_value(buffer, inst, value, writer),
+    match (symbol, value) {
+        (Symbol::Var(var), true) => add_number(buffer, b"1v", var as u64, writer),
+        (Symbol::Var(var), false) => add_number(buffer, b"0v", var as u64, writer),
+        (Symbol::Instance(inst), true) => add_number(buffer, b"1i", inst as u64, writer),
+        (Symbol::Instance(inst), false) => add_number(buffer, b"0i", inst as u64, writer),
     }
 }
 
+/// Adds the value of a variable or output after a scan, where the scan has changed it.
 fn add_change<W: Sink>(
     buffer: &mut TextBuffer,
     before: &State,
@@ -214,6 +193,7 @@ fn add_change<W: Sink>(
     add_value(buffer, symbol, value, writer)
 }
 
+/// Adds the line of one variable or instance, of the kind that is written.
 fn add_line<W: Sink>(
     buffer: &mut TextBuffer,
     decls: &Decls,
@@ -230,6 +210,7 @@ fn add_line<W: Sink>(
     }
 }
 
+/// Adds the lines of all variables, in order of declaration.
 fn add_var_lines<W: Sink>(
     buffer: &mut TextBuffer,
     decls: &Decls,
@@ -245,6 +226,7 @@ fn add_var_lines<W: Sink>(
     Ok(())
 }
 
+/// Adds the lines of all instances, in order of declaration.
 fn add_instance_lines<W: Sink>(
     buffer: &mut TextBuffer,
     decls: &Decls,

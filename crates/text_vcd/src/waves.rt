@@ -11,6 +11,7 @@ use diagram_program::Program;
 use io_text::{Sink, TextBuffer, WriteFault};
 use scan_cycle::State;
 
+/// Adds the head of a waveform: the unit of time, ms, and the declarations in one scope.
 fn add_declarations<W: Sink>(
     buffer: &mut TextBuffer,
     decls: &Decls,
@@ -23,13 +24,14 @@ fn add_declarations<W: Sink>(
     buffer.add(b"$upscope $end\n$enddefinitions $end\n", writer)
 }
 
+/// Adds the line of a moment, in ms.
 fn add_time<W: Sink>(buffer: &mut TextBuffer, moment: u64, writer: &mut W) -> Result<(), WriteFault>
     ensures { Sends (W.log writer.old) (W.log writer.new) buffer.old buffer.new result (time_line moment) }
 {
     add_number(buffer, b"#", moment, writer)
 }
 
-/// Adds all values of a state.
+/// Adds the values of all variables and outputs in a state.
 fn add_dump<W: Sink>(
     buffer: &mut TextBuffer,
     decls: &Decls,
@@ -43,6 +45,7 @@ fn add_dump<W: Sink>(
     buffer.add(b"$end\n", writer)
 }
 
+/// Adds what a waveform begins with: its declarations, and all values before the first scan.
 fn add_start<W: Sink>(
     buffer: &mut TextBuffer,
     program: &Program,
@@ -56,7 +59,7 @@ fn add_start<W: Sink>(
     add_dump(buffer, program.decls(), state, writer)
 }
 
-/// Writes what stands before the first scan, as one piece: the declarations, and all values of the state from which the scans begin.
+/// Writes what a waveform begins with, as one piece: the declarations, and all values of the state from which the scans begin.
 ///
 /// # Errors
 ///
@@ -91,6 +94,7 @@ fn add_moved<W: Sink>(
     add_time(buffer, after.moment(), writer)
 }
 
+/// Adds what a scan changed, after its moment where it is later than the one before.
 fn add_changes<W: Sink>(
     buffer: &mut TextBuffer,
     program: &Program,

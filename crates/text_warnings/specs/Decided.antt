@@ -14,11 +14,11 @@ use Rattle.diagram_program.specs.declared.cell.Cell.{Cell}
 use Rattle.diagram_program.specs.declared.cell.Cell.TheVariants as cell
 use Rattle.diagram_program.specs.declared.cell.Joint.{Joint}
 use Rattle.diagram_program.specs.declared.cell.Joint.TheVariants as joint
-use Rattle.diagram_program.specs.Program.{Drawing, block_in, cell_in, has_coil, is_coil_of, jump_of}
+use Rattle.diagram_program.specs.Program.{Drawing, block_in, cell_in, coil_in, has_coil, is_coil_of, jump_of}
 use Rattle.text_warnings.specs.declared.warning.Warning.{Warning}
 use Rattle.text_warnings.specs.declared.warning.Warning.TheVariants as warning
 use Rattle.text_warnings.specs.Similar.{AddsFirst, AreSimilar, DifferAt, ReplacesFirst}
-use Rattle.text_warnings.specs.Warned.{coil_in, Clashes, HasCellAt, HasCellBefore, HasCells, IsApart, IsCoilAnd, IsJoinedAt, IsLatch, IsLooseCrossing, IsNeverRead, IsNeverWritten, IsOfKind, IsUnwritten, IsWarned, IsWrittenTwice, Reads, operand_of}
+use Rattle.text_warnings.specs.Warned.{Clashes, HasCellAt, HasCellBefore, HasCells, IsApart, IsCoilAnd, IsJoinedAt, IsLatch, IsLooseCrossing, IsNeverRead, IsNeverWritten, IsOfKind, IsUnwritten, IsWarned, IsWrittenTwice, Reads, operand_of}
 use Rattle.text_warnings.specs.Routes.{HasRoute, IsRoute, LeadsNowhere, LeadsThrough}
 use Rattle.text_warnings.specs.Ways.{Follows, IsNeverReached, IsReached, IsWay, IsWired, IsWiredBy}
 use Rattle.text_warnings.specs.Below.{SomeBelow}
@@ -28,10 +28,8 @@ use Rattle.text_warnings.specs.Deciding.{alike, both, either, five, four, is_bel
 -- ---- crossings and rows
 
 plus : (j : Joint) → Dec (j ≡ joint.Plus)
-plus joint.Blank = no (λ e. cc)
-plus joint.Dash = no (λ e. cc)
 plus joint.Plus = yes refl
-plus joint.Bar = no (λ e. cc)
+plus _ = no (λ e. cc)
 
 loose_crossing : (d : Drawing) (rung row column : ℕ) → Dec (IsLooseCrossing d rung row column)
 loose_crossing d rung row column = five (is_below 0 column) (is_below (row + 1) ROWS) (plus _) (plus _) (is_off _)
@@ -86,14 +84,8 @@ leads_nowhere d rung row column = both (is_on _) (neither (route_within d rung C
 -- ---- ways
 
 wire : (c : Cell) → Dec (c ≡ cell.Wire)
-wire cell.Empty = no (λ e. cc)
 wire cell.Wire = yes refl
-wire (cell.Contact mode operand memory) = no (λ e. cc)
-wire (cell.Coil mode var memory) = no (λ e. cc)
-wire (cell.Block inst) = no (λ e. cc)
-wire (cell.Lower inst linked) = no (λ e. cc)
-wire (cell.Jump target) = no (λ e. cc)
-wire cell.Return = no (λ e. cc)
+wire _ = no (λ e. cc)
 
 wired : (d : Drawing) (rung column row : ℕ) → Dec (IsWired d rung column row)
 unfolding IsWired IsWiredBy
@@ -128,11 +120,9 @@ never_reached d rung row column = three (is_equal row 0) (is_equal column 0) (ne
 -- ---- variables and instances
 
 reads : (o : Option Symbol) (s : Symbol) → Dec (o ≡ Some s)
-reads None s = no (λ e. cc)
 reads (Some (symbol.Var a)) (symbol.Var b) = alike (ap (λ n. Some (symbol.Var n)), λ e. cc) (is_equal a b)
 reads (Some (symbol.Instance a)) (symbol.Instance b) = alike (ap (λ n. Some (symbol.Instance n)), λ e. cc) (is_equal a b)
-reads (Some (symbol.Var a)) (symbol.Instance b) = no (λ e. cc)
-reads (Some (symbol.Instance a)) (symbol.Var b) = no (λ e. cc)
+reads _ _ = no (λ e. cc)
 
 draws : (o : Option ℕ) (inst : ℕ) → Dec (o ≡ Some inst)
 draws None inst = no (λ e. cc)
@@ -140,25 +130,17 @@ draws (Some drawn) inst = alike (ap Some, λ e. cc) (is_equal drawn inst)
 
 of_kind : (k other : VarKind) → Dec (k ≡ other)
 of_kind kind.Input kind.Input = yes refl
-of_kind kind.Input kind.Output = no (λ e. cc)
-of_kind kind.Input kind.Memory = no (λ e. cc)
-of_kind kind.Output kind.Input = no (λ e. cc)
 of_kind kind.Output kind.Output = yes refl
-of_kind kind.Output kind.Memory = no (λ e. cc)
-of_kind kind.Memory kind.Input = no (λ e. cc)
-of_kind kind.Memory kind.Output = no (λ e. cc)
 of_kind kind.Memory kind.Memory = yes refl
+of_kind _ _ = no (λ e. cc)
 
 declared : (k : VarKind) (names : Declared) (var : ℕ) → Dec (IsOfKind k names var)
 declared k names var = is_some_and (slice_get names.vars var) (λ v. v.kind ≡ k) (λ v. of_kind v.kind k)
 
 latch : (m : CoilMode) → Dec (IsLatch m)
-latch coil.Store = no (grind arith)
-latch coil.Inverse = no (grind arith)
 latch coil.Set = yes (inl refl)
 latch coil.Reset = yes (inr refl)
-latch coil.Rising = no (grind arith)
-latch coil.Falling = no (grind arith)
+latch _ = no (grind arith)
 
 coil_and : (c : Cell) (Holds : CoilMode → ℕ → Type 0) → ((mode : CoilMode) (var : ℕ) → Dec (Holds mode var)) → Dec (IsCoilAnd c Holds)
 coil_and c Holds each = is_some_and (coil_in c) (λ coil. Holds coil.0 coil.1) (λ coil. each coil.0 coil.1)

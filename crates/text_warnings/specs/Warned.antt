@@ -13,7 +13,7 @@ use Rattle.diagram_program.specs.declared.cell.Cell.{Cell}
 use Rattle.diagram_program.specs.declared.cell.Cell.TheVariants as cell
 use Rattle.diagram_program.specs.declared.cell.Joint.TheVariants as joint
 use Rattle.diagram_program.specs.declared.cell.Operand.TheVariants as operand
-use Rattle.diagram_program.specs.Program.{Drawing, block_in, cell_in, has_coil, is_coil_of, is_empty, site_at}
+use Rattle.diagram_program.specs.Program.{Drawing, block_in, cell_in, coil_in, has_coil, is_coil_of, is_empty, site_at}
 use Rattle.text_warnings.specs.Below.{SomeBelow}
 use Rattle.text_warnings.specs.Routes.{LeadsNowhere}
 use Rattle.text_warnings.specs.Ways.{IsNeverReached}
@@ -63,10 +63,6 @@ operand_of other = None
 -- the cell is a contact on the variable or on the output of the instance
 abbrev pub Reads : Symbol → Cell → Type 0
 Reads s c = operand_of c ≡ Some s
-
--- the mode and the variable of a coil
-abbrev pub coil_in : Cell → Option (CoilMode × ℕ)
-coil_in c = elim c [ cell.Coil mode var memory ↦ Some (mode, var) | _ ↦ None ]
 
 -- the cell is a coil, for whose mode and variable it holds
 abbrev pub IsCoilAnd : Cell → (CoilMode → ℕ → Type 0) → Type 0

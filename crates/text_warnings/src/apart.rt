@@ -8,6 +8,7 @@ ghost use Rattle.text_warnings.specs.Warned.{HasCellAt, HasCells, IsApart, IsJoi
 use diagram_program::geometry::{COLUMNS, Place};
 use diagram_program::{Cell, Program};
 
+/// Whether something is drawn at a place.
 fn has_cell_at(program: &Program, at: Place) -> bool
     requires { at.rung < program.now.rungs }
     ensures { IsTrue result ↔ HasCellAt program.now at.rung at.row at.column }

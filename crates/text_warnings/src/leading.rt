@@ -8,7 +8,8 @@ ghost use Rattle.text_warnings.specs.Leading.{AreLeading};
 use diagram_program::geometry::{COLUMNS, Place, ROWS};
 use diagram_program::{Cell, Program};
 
-/// Whether the right link of the row `from` leads to the cell at a place, and so to one that uses power; `onward`: whether the cell's right end leads to one.
+/// Whether the right link of the row `from` leads into the cell at a place and on to a cell that uses power; `onward` says whether
+/// the right end of this cell leads to one.
 #[tactic(auto, unfolding(crate::specs::Routes::LeadsThrough))]
 fn leads_through(program: &Program, from: usize, at: Place, onward: bool) -> bool
     requires rungs { at.rung < program.now.rungs }
@@ -25,7 +26,8 @@ fn leads_through(program: &Program, from: usize, at: Place, onward: bool) -> boo
         }
 }
 
-/// Whether the right end of the cell leads to one that uses power, with `count` columns behind the next one.
+/// Whether the right link of the row `from` leads to a cell that uses power; `count` columns are after the next one, and `onward`
+/// says from which rows of the next column power gets to one.
 fn leads(program: &Program, rung: usize, from: usize, count: usize, onward: &[bool; ROWS]) -> bool
     requires rungs { rung < program.now.rungs }
     requires few { rung < RUNGS }
@@ -43,7 +45,8 @@ fn leads(program: &Program, rung: usize, from: usize, count: usize, onward: &[bo
     false
 }
 
-/// From which rows the right end of a cell leads to one that uses power, with `count` columns behind the next one.
+/// From which rows of a column power gets to a cell that uses it; `count` columns are after the next one, and `onward` says the
+/// same of the next column.
 fn leading_before(
     program: &Program,
     rung: usize,
@@ -63,7 +66,7 @@ fn leading_before(
     leading
 }
 
-/// From which rows the right end of a cell leads to one that uses power, with so many columns on its right.
+/// From which rows the right end of a cell leads to one that uses power, with `count` columns on its right.
 fn leading(program: &Program, rung: usize, count: usize) -> [bool; ROWS]
     requires rungs { rung < program.now.rungs }
     requires few { rung < RUNGS }
@@ -82,14 +85,6 @@ pub(crate) fn leads_nowhere(program: &Program, at: Place) -> bool
     requires { at.rung < program.now.rungs }
     ensures { IsTrue result ↔ LeadsNowhere program.now at.rung at.row at.column }
 {
-    match program.site(at).cell {
-        Cell::Contact { .. } => !leading(program, at.rung, COLUMNS - (at.column + 1))[at.row],
-        Cell::Empty
-        | Cell::Wire
-        | Cell::Coil { .. }
-        | Cell::Block { .. }
-        | Cell::Lower { .. }
-        | Cell::Jump { .. }
-        | Cell::Return => false,
-    }
+    program.site(at).cell.contact().is_some()
+        && !leading(program, at.rung, COLUMNS - (at.column + 1))[at.row]
 }

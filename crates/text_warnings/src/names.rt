@@ -32,6 +32,7 @@ fn name_at(decls: &Decls, number: usize) -> &[u8]
     }
 }
 
+/// Adds the warning that a name is similar to an earlier one.
 fn add_row<'a, W: Sink>(
     buffer: &mut TextBuffer,
     name: &'a [u8],
@@ -50,7 +51,7 @@ fn add_row<'a, W: Sink>(
     add_pieces(buffer, pieces.as_slice(), writer)
 }
 
-/// Adds the row of two names if they are similar, and returns how many rows that makes.
+/// Adds the row of two names if they are similar, and returns how many rows that is.
 fn add_if_similar<W: Sink>(
     buffer: &mut TextBuffer,
     decls: &Decls,
@@ -71,7 +72,7 @@ fn add_if_similar<W: Sink>(
     Ok(1)
 }
 
-/// Adds the rows of a name with those before it, and returns how many.
+/// Adds a row for each earlier name that is similar to this one, and returns how many.
 fn add_name<W: Sink>(
     buffer: &mut TextBuffer,
     decls: &Decls,

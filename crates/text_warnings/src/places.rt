@@ -23,6 +23,7 @@ pub(crate) fn cell_in(program: &Program, place: usize) -> Cell
     program.site(Place::from_number(place)).cell
 }
 
+/// Whether two crossings are one above the other without a vertical wire between them, so that they aren't connected.
 fn is_loose_crossing(program: &Program, at: Place) -> bool
     requires { at.rung < program.now.rungs }
     ensures { IsTrue result ↔ IsLooseCrossing program.now at.rung at.row at.column }
@@ -73,6 +74,7 @@ fn clashes_before(program: &Program, mode: CoilMode, var: usize, count: usize) -
     false
 }
 
+/// Whether some block of the program is that of the instance.
 fn is_drawn(program: &Program, inst: usize) -> bool
     ensures { IsTrue result ↔ HasCell program.now (λ c. block_in c ≡ Some inst) }
 {
@@ -103,22 +105,18 @@ fn is_unwritten(program: &Program, symbol: Symbol) -> bool
     }
 }
 
+/// Whether a coil writes a variable that an earlier one writes in a way that clashes with it.
 fn is_written_twice(program: &Program, place: usize) -> bool
     requires { place < PLACES * program.now.rungs }
     ensures { IsTrue result ↔ IsWrittenTwice program.now place }
 {
-    match cell_in(program, place) {
-        Cell::Coil { mode, var, .. } => clashes_before(program, mode, var, place),
-        Cell::Empty
-        | Cell::Wire
-        | Cell::Contact { .. }
-        | Cell::Block { .. }
-        | Cell::Lower { .. }
-        | Cell::Jump { .. }
-        | Cell::Return => false,
+    match cell_in(program, place).coil() {
+        Some((mode, var)) => clashes_before(program, mode, var, place),
+        None => false,
     }
 }
 
+/// Whether a contact reads what nothing writes, and is the first to do so.
 fn is_never_written(program: &Program, place: usize) -> bool
     requires { place < PLACES * program.now.rungs }
     ensures { IsTrue result ↔ IsNeverWritten program.now place }
@@ -129,23 +127,18 @@ fn is_never_written(program: &Program, place: usize) -> bool
     }
 }
 
+/// Whether a coil writes a memory that nothing reads, and is the first to do so.
 fn is_never_read(program: &Program, place: usize) -> bool
     requires { place < PLACES * program.now.rungs }
     ensures { IsTrue result ↔ IsNeverRead program.now place }
 {
-    match cell_in(program, place) {
-        Cell::Coil { var, .. } => {
+    match cell_in(program, place).coil() {
+        Some((_, var)) => {
             is_of_kind(VarKind::Memory, program.decls(), var)
                 && !is_read(program, Symbol::Var(var))
                 && !is_written_before(program, var, place)
         }
-        Cell::Empty
-        | Cell::Wire
-        | Cell::Contact { .. }
-        | Cell::Block { .. }
-        | Cell::Lower { .. }
-        | Cell::Jump { .. }
-        | Cell::Return => false,
+        None => false,
     }
 }
 

@@ -29,7 +29,8 @@ fn follows(program: &Program, before: usize, rung: usize) -> bool
     rung == before + 1 && !always_leaves(program, before) || jumps_to(program, before, rung)
 }
 
-/// Whether a scan reaches the rung; `reached`: which of those before it.
+/// Whether a scan reaches a rung: it is the first one, or some rung that a scan reaches is followed by it; `reached` says which of
+/// those before it a scan reaches.
 fn comes_to(program: &Program, rung: usize, reached: &[bool; RUNGS]) -> bool
     requires rungs { rung < program.now.rungs }
     requires few { rung < RUNGS }
@@ -57,6 +58,7 @@ fn reached_below(program: &Program, count: usize) -> [bool; RUNGS]
     reached
 }
 
+/// Whether a scan can come to a rung by jumps and the rungs before it.
 fn is_reached(program: &Program, rung: usize) -> bool
     requires { rung < program.now.rungs }
     ensures { IsTrue result ↔ IsReached program.now rung }

@@ -6,6 +6,7 @@ ghost use Rattle.text_warnings.specs.Similar.{AddsFirst, AreSimilar, DifferAt, R
 
 use diagram_declarations::same_letters;
 
+/// Whether a character is a decimal digit; names that differ in digits alone are numbered on purpose.
 fn is_digit(byte: u8) -> bool
     ensures { result ≡ is_ascii_digit byte }
 {
@@ -30,7 +31,7 @@ fn replaces_first(a: &[u8], b: &[u8]) -> bool
     }
 }
 
-/// Whether a character that is no digit stands before the other text.
+/// Whether the one text is the other with a character before it that is no digit.
 fn adds_first(a: &[u8], b: &[u8]) -> bool
     ensures { IsTrue result ↔ AddsFirst a.now b.now }
 {

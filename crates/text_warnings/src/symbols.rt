@@ -8,38 +8,24 @@ ghost use Rattle.text_warnings.specs.Warnings.{symbol_of};
 use diagram_declarations::{Decls, Symbol, VarKind};
 use diagram_program::{Cell, CoilMode, Operand};
 
-/// What a contact reads.
+/// The variable or the instance that a contact reads.
 pub(crate) fn operand_of(cell: Cell) -> Option<Symbol>
     ensures { result ≡ operand_of cell }
 {
-    match cell {
-        Cell::Contact { operand, .. } => match operand {
-            Operand::Var(var) => Some(Symbol::Var(var)),
-            Operand::Output(inst) => Some(Symbol::Instance(inst)),
-        },
-        Cell::Empty
-        | Cell::Wire
-        | Cell::Coil { .. }
-        | Cell::Block { .. }
-        | Cell::Lower { .. }
-        | Cell::Jump { .. }
-        | Cell::Return => None,
+    match cell.contact() {
+        Some((_, Operand::Var(var))) => Some(Symbol::Var(var)),
+        Some((_, Operand::Output(inst))) => Some(Symbol::Instance(inst)),
+        None => None,
     }
 }
 
-/// What a contact reads or a coil writes.
+/// The variable or the instance that a contact reads or a coil writes.
 pub(crate) fn symbol_of(cell: Cell) -> Option<Symbol>
     ensures { result ≡ symbol_of cell }
 {
-    match cell {
-        Cell::Coil { var, .. } => Some(Symbol::Var(var)),
-        Cell::Contact { .. }
-        | Cell::Empty
-        | Cell::Wire
-        | Cell::Block { .. }
-        | Cell::Lower { .. }
-        | Cell::Jump { .. }
-        | Cell::Return => operand_of(cell),
+    match cell.coil() {
+        Some((_, var)) => Some(Symbol::Var(var)),
+        None => operand_of(cell),
     }
 }
 
@@ -57,18 +43,13 @@ pub(crate) fn reads(symbol: Symbol, cell: Cell) -> bool
 pub(crate) fn draws(inst: usize, cell: Cell) -> bool
     ensures { IsTrue result ↔ (block_in cell ≡ Some inst) }
 {
-    match cell {
-        Cell::Block { inst: drawn } => drawn == inst,
-        Cell::Empty
-        | Cell::Wire
-        | Cell::Contact { .. }
-        | Cell::Coil { .. }
-        | Cell::Lower { .. }
-        | Cell::Jump { .. }
-        | Cell::Return => false,
+    match cell.block() {
+        Some(drawn) => drawn == inst,
+        None => false,
     }
 }
 
+/// Whether a coil only sets or only resets, so that several may write one variable.
 fn is_latch(mode: CoilMode) -> bool
     ensures { IsTrue result ↔ IsLatch mode }
 {
@@ -83,23 +64,13 @@ fn is_latch(mode: CoilMode) -> bool
 pub(crate) fn clashes(mode: CoilMode, var: usize, cell: Cell) -> bool
     ensures { IsTrue result ↔ Clashes mode var cell }
 {
-    match cell {
-        Cell::Coil {
-            mode: other,
-            var: written,
-            ..
-        } => written == var && !(is_latch(mode) && is_latch(other)),
-        Cell::Empty
-        | Cell::Wire
-        | Cell::Contact { .. }
-        | Cell::Block { .. }
-        | Cell::Lower { .. }
-        | Cell::Jump { .. }
-        | Cell::Return => false,
+    match cell.coil() {
+        Some((other, written)) => written == var && !(is_latch(mode) && is_latch(other)),
+        None => false,
     }
 }
 
-/// Whether the variable is of this kind.
+/// Whether a variable is of this kind: an input, an output or a memory.
 pub(crate) fn is_of_kind(kind: VarKind, decls: &Decls, var: usize) -> bool
     ensures { IsTrue result ↔ IsOfKind kind decls.now var }
 {

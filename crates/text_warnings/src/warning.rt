@@ -34,7 +34,7 @@ impl Warning {
         Warning::NeverReached,
     ];
 
-    /// The word of a warning in its row.
+    /// The word that a warning has in its row.
     pub(crate) fn word(self) -> &'static [u8]
         ensures { result.now ≡ warning_word self }
     {

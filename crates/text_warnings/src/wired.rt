@@ -25,7 +25,7 @@ fn is_wired_by(program: &Program, row: usize, at: Place, wired: bool) -> bool
     program.feeds(fed, at.row) && program.site(at).cell == Cell::Wire && wired
 }
 
-/// Whether wires connect the left end of the cell behind a place to the left rail; `wired`: which left ends in the place's column they do.
+/// Whether wires connect the left end of the cell after a place to the left rail; `wired`: which left ends in the place's column they do.
 fn is_wired(program: &Program, at: Place, wired: &[bool; ROWS]) -> bool
     requires rungs { at.rung < program.now.rungs }
     requires columns { at.column + 1 < COLUMNS }

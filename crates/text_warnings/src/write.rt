@@ -18,7 +18,7 @@ use diagram_program::geometry::{PLACES, ROWS};
 use io_text::{Sink, TextBuffer, WriteFault, add_line};
 use itoa::Buffer;
 
-/// What is named by a warning at a place.
+/// The name that the row of a warning has: of the cell's variable or instance, or none.
 fn warned_name(program: &Program, place: usize, warning: Warning) -> &[u8]
     requires { place < PLACES * program.now.rungs }
     ensures { result.now ≡ warned_name program.now place warning }
@@ -37,6 +37,7 @@ fn warned_name(program: &Program, place: usize, warning: Warning) -> &[u8]
     }
 }
 
+/// Adds a record: `warning`, the kind of warning, rung, row, column and name.
 fn row_line<W: Sink>(
     buffer: &mut TextBuffer,
     word: &[u8],

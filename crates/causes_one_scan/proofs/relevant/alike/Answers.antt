@@ -1,6 +1,7 @@
 use Rattle.std.proofs.Common.{◌∙◌, ◌++◌, ◌∷◌, ◌<◌, [], ℕ, List, add-one, ap, length, slice_index_or, sym, take}
+use Rattle.std.proofs.lemmas.Bool.{both_ways}
 use Rattle.causes_one_scan.specs.Looking.{alike}
-use Rattle.causes_one_scan.proofs.Deciding.{none_more, not_true, one_more}
+use Rattle.causes_one_scan.proofs.Deciding.{none_more, one_more}
 use Rattle.causes_one_scan.proofs.relevant.alike.Goals as goal
 use Rattle.causes_one_scan.proofs.relevant.alike.Goals.{then-is_alike+in_ok-push, else-is_alike}
 
@@ -21,5 +22,5 @@ loop-input-preserved c =
           ∙ one_more image inputs i there c.loop-input-test.true (c.is_alike.ensures.0 w.if-is_alike.true) ∙ next
       | else-is_alike w ↦
           rw w.found-is c.loop-input.invariant
-          ∙ none_more image inputs i there c.loop-input-test.true (λ is. not_true w.if-is_alike.false (c.is_alike.ensures.1 is)) ∙ next
+          ∙ none_more image inputs i there c.loop-input-test.true (λ is. both_ways _ w.if-is_alike.false (c.is_alike.ensures.1 is)) ∙ next
     ]

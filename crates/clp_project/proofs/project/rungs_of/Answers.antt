@@ -1,6 +1,6 @@
 use Rattle.std.proofs.Common.{◌≡◌, ℕ, List, map, Some, Ok, Err, IfErr, Result}
 use Rattle.clp_project.specs.declared.fault.ClpFault.{ClpFault}
-use Rattle.clp_project.specs.declared.fault.ClpFault.TheVariants.{Memory, NoProject, BadRung, BadTable, NotLadder, BrokenWay}
+use Rattle.clp_project.specs.declared.fault.ClpFault.TheVariants.{Memory, NotLadder, BrokenWay}
 use Rattle.clp_project.specs.declared.reading.ReadingOptions.{ReadingOptions}
 use Rattle.clp_project.specs.declared.rung.ClpRung.{ClpRung}
 use Rattle.clp_project.specs.declared.table.Section.{Section}
@@ -14,11 +14,9 @@ use Rattle.clp_project.proofs.project.rungs_of.Goals as goal
 order_fault : (reading : ReadingOptions) (lines : List (List ℕ)) (rungs : List ClpRung) (sections : List Section) → rungs_in lines ≡ Ok (map read_of rungs)
     → sections_in (part_of sections_head lines) ≡ Some sections → (fault : ClpFault) → IsOrderFault (arranged reading rungs sections) fault → IsFaultOf reading lines fault
 order_fault reading lines rungs sections read listed Memory is = tt
-order_fault reading lines rungs sections read listed NoProject is = absurd is
-order_fault reading lines rungs sections read listed (BadRung number) is = absurd is
-order_fault reading lines rungs sections read listed (BadTable t) is = absurd is
 order_fault reading lines rungs sections read listed (NotLadder section) is = (rungs, sections, read, listed, is)
 order_fault reading lines rungs sections read listed (BrokenWay section) is = (rungs, sections, read, listed, is)
+order_fault reading lines rungs sections read listed _ is = absurd is
 
 any_fault : {T : Type 0} (reading : ReadingOptions) (lines : List (List ℕ)) (rungs : List ClpRung) (sections : List Section) → rungs_in lines ≡ Ok (map read_of rungs)
     → sections_in (part_of sections_head lines) ≡ Some sections → (r : Result T ClpFault) → IfErr r (λ e. IsOrderFault (arranged reading rungs sections) e)

@@ -49,19 +49,7 @@ returns-in-None-clause-none c = all_kept (seen c.args.page) c.args.rung (map (λ
 placed : (page : Page) (k : ℕ) (r : GridRule) (line : ℕ) → IsBrokenOn r page k line → RungBreaks (Grid r) page k line
 placed page k rule.TooTall line h = absurd (nowhere_tall page k h.0 h.1 h.4.0 h.4.2)
 placed page k rule.TooWide line h = absurd (nowhere_wide page k h.0 h.1 h.4.0 h.4.2)
-placed page k rule.BadCell line h = h
-placed page k rule.BadJoint line h = h
-placed page k rule.BrokenVertical line h = h
-placed page k rule.Unfed line h = h
-placed page k rule.NameMissing line h = h
-placed page k rule.NameWithoutSymbol line h = h
-placed page k rule.Undeclared line h = h
-placed page k rule.WrongKind line h = h
-placed page k rule.BlockShape line h = h
-placed page k rule.DrawnTwice line h = h
-placed page k rule.LabelFault line h = h
-placed page k rule.TwoJumps line h = h
-placed page k rule.TooManyRungs line h = h
+placed page k _ line h = h
 
 pub returns-in-Some-broken_place-clause-some : goal.returns-in-Some-broken_place-clause-some
 returns-in-Some-broken_place-clause-some c =

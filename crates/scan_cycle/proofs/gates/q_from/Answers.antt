@@ -3,7 +3,7 @@ use Rattle.diagram_declarations.specs.declared.kind.BlockKind.{BlockKind}
 use Rattle.diagram_declarations.specs.declared.kind.BlockKind.TheVariants.{Ton, Tof, Tp, Ctu, Ctd, Sr, Rs}
 use Rattle.diagram_declarations.specs.Kind.{traits_of}
 use Rattle.scan_signals.specs.declared.block.Stored.{Stored}
-use Rattle.scan_signals.specs.declared.block.Stored.TheVariants.{Timer, Counter, Bistable}
+use Rattle.scan_signals.specs.declared.block.Stored.TheVariants.{Timer}
 use Rattle.scan_signals.specs.Blocks.{step, q_of}
 use Rattle.scan_cycle.proofs.gates.q_from.Goals as goal
 
@@ -12,18 +12,13 @@ one_input : (kind : BlockKind) → is_some (traits_of kind).second_input ≡ fal
     → step kind preset s first a now ≡ step kind preset s first b now
 unfolding step
 one_input Ton h preset (Timer last running start q) first a b now = refl
-one_input Ton h preset (Counter last cv q) first a b now = refl
-one_input Ton h preset (Bistable q) first a b now = refl
 one_input Tof h preset (Timer last running start q) first a b now = refl
-one_input Tof h preset (Counter last cv q) first a b now = refl
-one_input Tof h preset (Bistable q) first a b now = refl
 one_input Tp h preset (Timer last running start q) first a b now = refl
-one_input Tp h preset (Counter last cv q) first a b now = refl
-one_input Tp h preset (Bistable q) first a b now = refl
 one_input Ctu h preset s first a b now = cc
 one_input Ctd h preset s first a b now = cc
 one_input Sr h preset s first a b now = cc
 one_input Rs h preset s first a b now = cc
+one_input _ h preset _ first a b now = refl
 
 pub returns-else-has_second : goal.returns-else-has_second
 returns-else-has_second g c =

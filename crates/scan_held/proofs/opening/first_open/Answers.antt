@@ -3,7 +3,8 @@ use Rattle.scan_cycle.specs.Programs.{diagram_of}
 use Rattle.scan_held.specs.Holding.{moment_of}
 use Rattle.scan_held.proofs.FirstScans.{found_now, none_till}
 use Rattle.scan_held.specs.SeveralLaws.{is_not_off, known_after}
-use Rattle.scan_held.proofs.ComingAgain.{not_past, still_marked, still_sized}
+use Rattle.scan_held.proofs.ComingAgain.{still_marked, still_sized}
+use Rattle.scan_held.proofs.Periods.{not_past}
 use Rattle.scan_held.proofs.ScanByScan.{both_long, none_made, one_more, value_is}
 use Rattle.scan_held.proofs.opening.first_open.Goals as goal
 

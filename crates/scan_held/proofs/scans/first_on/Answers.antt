@@ -4,7 +4,8 @@ use Rattle.scan_cycle.specs.Scan.{after_scan}
 use Rattle.scan_cycle.specs.Standing.{Standing}
 use Rattle.scan_held.specs.Holding.{is_on_after, moment_of}
 use Rattle.scan_held.proofs.FirstScans.{found_now, in_order, none_so_far, none_till, on_is, scans_more}
-use Rattle.scan_held.proofs.Repeating.{not_past, still_fits, still_marked}
+use Rattle.scan_held.proofs.Periods.{not_past}
+use Rattle.scan_held.proofs.Repeating.{still_fits, still_marked}
 use Rattle.scan_held.proofs.scans.first_on.Goals as goal
 
 pub loop-done-init : goal.loop-done-init

@@ -28,10 +28,10 @@ loop-rung-preserved c =
       | then-resume-rung w ↦
           let on : s.resume ≤ j = omega (arith, c.loop-rung.invariant.resume, w.if-resume-rung.true) in
           record {
-            state = w.storage-is ∙ w.pass-resume.ensures.held ∙ ap (evaluated d now j) c.loop-rung.invariant.state ∙ sym (ap (λ (x : Scanned). x.held) (gone_through d now h j on));
-            resume = w.resume-is ∙ w.pass-resume.ensures.after ∙ ap (next_rung d now j) c.loop-rung.invariant.state ∙ sym (ap (λ (x : Scanned). x.resume) (gone_through d now h j on));
-            sizes = sizes_same w.start-is w.storage-is w.pass-resume.ensures.sizes;
-            rest = rest_same d now w.storage-is w.next-is w.pass-resume.ensures.rest;
+            state = w.storage-is ∙ w.scan_rung-resume.ensures.held ∙ ap (evaluated d now j) c.loop-rung.invariant.state ∙ sym (ap (λ (x : Scanned). x.held) (gone_through d now h j on));
+            resume = w.resume-is ∙ w.scan_rung-resume.ensures.after ∙ ap (next_rung d now j) c.loop-rung.invariant.state ∙ sym (ap (λ (x : Scanned). x.resume) (gone_through d now h j on));
+            sizes = sizes_same w.start-is w.storage-is w.scan_rung-resume.ensures.sizes;
+            rest = rest_same d now w.storage-is w.next-is w.scan_rung-resume.ensures.rest;
           }
       | else-resume-rung w ↦
           let off : j < s.resume = omega (arith, c.loop-rung.invariant.resume, w.if-resume-rung.false) in

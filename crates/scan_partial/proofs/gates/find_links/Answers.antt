@@ -7,8 +7,8 @@ use Rattle.scan_partial.specs.Evaluating.{ran_in, AreLinksIn}
 use Rattle.scan_partial.proofs.GateLaws.{links_are}
 use Rattle.scan_partial.proofs.gates.find_links.Goals as goal
 
-pub run-requires-clause-gates : goal.run-requires-clause-gates
-run-requires-clause-gates g c = gates_inside c.args.scene.program.now c.args.scene.rung
+pub pass_gates-requires-clause-gates : goal.pass_gates-requires-clause-gates
+pass_gates-requires-clause-gates g c = gates_inside c.args.scene.program.now c.args.scene.rung
 
 pub returns-clause-links : goal.returns-clause-links
 returns-clause-links g c =
@@ -20,6 +20,6 @@ returns-clause-links g c =
     let k = c.args.known.now in
     let rails = c.set_rails.new.links in
     subst (λ (xs : List _). AreLinksIn o w p now j k xs)
-    (sym (c.run.ensures ∙ ap (λ (f : Frame _). ran_in o w (diagram_of p) now j f k (gates_of p j) rails) c.requires.seen))
+    (sym (c.pass_gates.ensures ∙ ap (λ (f : Frame _). ran_in o w (diagram_of p) now j f k (gates_of p j) rails) c.requires.seen))
     (links_are o g.S.Operations.value g.met.S.Signal.lattice w g.B.Keep.kept g.met.B.Keep.keeps p now j k c.checked.ensures
     rails c.set_rails.ensures.length c.set_rails.ensures.on c.set_rails.ensures.off)

@@ -1,10 +1,11 @@
 use Rattle.std.proofs.Common.{◌≡◌, ◌∙◌, inl, inr, ◌+◌, ◌/◌, ◌<◌, ◌^◌, ◌++◌, ap, arith, rules, sym}
 use Rattle.std.proofs.lemmas.Bool.{cases_lt}
+use Rattle.std.proofs.lemmas.Nat.{shr-shr}
 use Rattle.search_tree.proofs.Marks.{none_marked}
 use Rattle.search_tree.specs.Marked.{marked}
 use Rattle.io_text.proofs.Sending.{sends_err}
 use Rattle.text_causes.specs.Rows.{rows}
-use Rattle.text_causes.proofs.RunLaws.{later_of, later_smaller, place_small, rows_parts, sent_all, sent_more, sent_prefix}
+use Rattle.text_causes.proofs.RunLaws.{later_smaller, place_small, rows_parts, sent_all, sent_more, sent_prefix}
 use Rattle.text_causes.proofs.runs.add_marked.Goals as goal
 
 pub add_run-requires-clause-hundreds : goal.add_run-requires-clause-hundreds
@@ -59,7 +60,7 @@ loop-mask-preserved g c =
           (parts ∙ ap (λ m. rows k (marked (number + place) c.first_bits.result) ++ rows k (marked (number + (place + count)) m)) left)
           (rw here at c.in_ok-add_run.ensures.sends);
       kept = c.in_ok-add_run.ensures.kept;
-      shifted = c.later_bits-mask.ensures ∙ ap (λ m. m / 2 ^ count) c.loop-mask.invariant.shifted ∙ later_of c.args.numbers.mask place count;
+      shifted = c.later_bits-mask.ensures ∙ ap (λ m. m / 2 ^ count) c.loop-mask.invariant.shifted ∙ shr-shr c.args.numbers.mask place count;
       few = omega (arith, small, c.run_length-count.ensures.few);
     }
 

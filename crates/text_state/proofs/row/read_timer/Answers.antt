@@ -1,6 +1,6 @@
 use Rattle.std.proofs.Common.{rules, ◌≡◌, ◌∙◌, Some, None, refl, sym, decimal, arith}
 use Rattle.std.proofs.lemmas.Fmt.{decimal_injective}
-use Rattle.text_state.proofs.Items.{some_same}
+use Rattle.std.proofs.lemmas.Option.{same_Some}
 use Rattle.text_state.proofs.Items.{as_timer, same_timer, timer_last, timer_q, timer_running, timer_start}
 use Rattle.text_state.proofs.row.read_timer.Goals as goal
 
@@ -12,12 +12,12 @@ returns-in_default-clause-none c = λ _ s h.
 pub returns-in_default-read_number-clause-none : goal.returns-in_default-read_number-clause-none
 returns-in_default-read_number-clause-none c = λ _ s h.
     let t = as_timer _ c.args.moment _ s h in
-    c.in_default-read_number.ensures.none refl t.n (omega (arith, t.before)) (some_same (c.in-Some.ensures.value ∙ timer_start _ _ t.l t.r _ t.q t.same))
+    c.in_default-read_number.ensures.none refl t.n (omega (arith, t.before)) (same_Some _ _ (c.in-Some.ensures.value ∙ timer_start _ _ t.l t.r _ t.q t.same))
 
 pub returns-then-not-is_possible-clause-none : goal.returns-then-not-is_possible-clause-none
 returns-then-not-is_possible-clause-none c = λ _ s h.
     let t = as_timer _ c.args.moment _ s h in
-    let same = some_same (c.in-Some.ensures.value ∙ timer_start _ _ t.l t.r _ t.q t.same) in
+    let same = same_Some _ _ (c.in-Some.ensures.value ∙ timer_start _ _ t.l t.r _ t.q t.same) in
     let start = decimal_injective c.in-Some-read_number.start t.n (search rules) (omega (arith, t.before)) (sym c.in-Some-read_number.ensures.some ∙ same) in
     let running = c.is_on-running.ensures ∙ timer_running _ _ t.l t.r _ t.q t.same in
     let late = c.if-not-is_possible.ensures.no refl (λ e. start ∙ t.stopped (sym running ∙ e)) in
@@ -26,7 +26,7 @@ returns-then-not-is_possible-clause-none c = λ _ s h.
 pub returns-then-not-is_timer-clause-none : goal.returns-then-not-is_timer-clause-none
 returns-then-not-is_timer-clause-none c = λ _ s h.
     let t = as_timer _ c.args.moment _ s h in
-    let same = some_same (c.in-Some.ensures.value ∙ timer_start _ _ t.l t.r _ t.q t.same) in
+    let same = same_Some _ _ (c.in-Some.ensures.value ∙ timer_start _ _ t.l t.r _ t.q t.same) in
     let last = c.is_on-last.ensures ∙ timer_last _ _ t.l t.r _ t.q t.same in
     let running = c.is_on-running.ensures ∙ timer_running _ _ t.l t.r _ t.q t.same in
     let q = c.is_on-q.ensures ∙ timer_q _ _ t.l t.r _ t.q t.same in

@@ -1,9 +1,10 @@
 use Rattle.std.proofs.Common.{◌≡◌, ◌∙◌, ◌+◌, ◌-◌, ◌<◌, ◌==◌, [], suc, IfSome, true, false, inr, ap, arith, drop, get_or, length, length-drop, refl, subst, sym, take_all}
 use Rattle.std.specs.List.{count_by, list_any}
+use Rattle.std.proofs.lemmas.List.Elements.{All-push}
+use Rattle.std.proofs.lemmas.Option.{slice_get-get_or}
 use Rattle.csv.specs.Records.{fields_of}
 use Rattle.diagram_declarations.specs.Decls.{is_input}
-use Rattle.text_trace.proofs.HeaderWords.{AreColumns, all_more, bad_first, columns_more, columns_none, contains, header_to, header_with, is_headed, word_at}
-use Rattle.text_trace.proofs.Lists.{there_at}
+use Rattle.text_trace.proofs.HeaderWords.{AreColumns, bad_first, columns_more, columns_none, contains, header_to, header_with, is_headed, word_at}
 use Rattle.text_trace.proofs.header.columns.Goals as goal
 
 off_on : false ≡ true → ⊥
@@ -27,7 +28,7 @@ returns-in_default-clause-refused c = λ rows.
         number,
         columns,
         header_to c.args.decls.now fs number columns inv.1 inv.0 inv.2,
-        (get_or fs number [], there_at fs number [] (omega (arith, c.loop-number-test.true)), sym c.input_at.ensures.place ∙ c.in_default.is),
+        (get_or fs number [], slice_get-get_or fs number [] (omega (arith, c.loop-number-test.true)), sym c.input_at.ensures.place ∙ c.in_default.is),
       ),
     )
 
@@ -46,7 +47,7 @@ returns-then-is_named-clause-refused c = λ rows.
           number,
           columns,
           header_to c.args.decls.now fs number columns inv.1 inv.0 inv.2,
-          (get_or fs number [], there_at fs number [] (omega (arith, c.loop-number-test.true)), (c.in-Some.place, sym c.input_at.ensures.place ∙ c.in-Some.is, contains c.in-Some.place columns again)),
+          (get_or fs number [], slice_get-get_or fs number [] (omega (arith, c.loop-number-test.true)), (c.in-Some.place, sym c.input_at.ensures.place ∙ c.in-Some.is, contains c.in-Some.place columns again)),
         ),
       ),
     )
@@ -65,7 +66,7 @@ loop-number-preserved c =
       omega arith,
       inv.1,
       rw (← at, c.in-Ok.ensures.items) more,
-      rw c.in-Ok.ensures.items (all_more (λ k. k < count_by is_input c.args.decls.now.vars) c.loop-number.columns.items place inv.3 below),
+      rw c.in-Ok.ensures.items (All-push (λ k. k < count_by is_input c.args.decls.now.vars) c.loop-number.columns.items place inv.3 below),
     )
 
 pub returns-clause-columns : goal.returns-clause-columns

@@ -1,7 +1,7 @@
 use Rattle.std.proofs.Common.{◌≡◌, ◌∙◌, false, true, arith, sym}
+use Rattle.std.proofs.lemmas.Option.{same_Some}
 use Rattle.csv.specs.Records.{fields_of}
 use Rattle.text_trace.proofs.Bits.{is_read, row_bits, row_first}
-use Rattle.text_trace.proofs.Lists.{some_same}
 use Rattle.text_trace.proofs.row.read_row.Goals as goal
 
 pub returns-in_default-clause-none : goal.returns-in_default-clause-none
@@ -19,4 +19,4 @@ returns-clause-some c =
 
 pub returns-clause-none : goal.returns-clause-none
 returns-clause-none c = λ e moment bits h.
-    c.read_number.ensures.none e moment h.small (some_same (c.in-Some.ensures.value ∙ row_first c.args.columns.now (fields_of c.args.row.now) moment bits h))
+    c.read_number.ensures.none e moment h.small (same_Some _ _ (c.in-Some.ensures.value ∙ row_first c.args.columns.now (fields_of c.args.row.now) moment bits h))

@@ -4,7 +4,7 @@ use Rattle.io_text.proofs.Sending.{sends_prefix, sends_last, sends_none, sends_e
 use Rattle.text_drawing.specs.Marked.{is_line_of}
 use Rattle.text_drawing.specs.Notes.{notes_behind}
 use Rattle.text_drawing.specs.Pictures.{lines_drawn}
-use Rattle.text_drawing.proofs.noting.add_noted_line.Goals as goal
+use Rattle.text_drawing.proofs.whole.add_noted_line.Goals as goal
 
 pub returns-in_err-add_line : goal.returns-in_err-add_line
 returns-in_err-add_line g c = sends_err _ _ _ _ _ _ c.from_residual.ensures.0

@@ -1,7 +1,7 @@
 use Rattle.std.proofs.Common.{◌++◌, [], refl}
 use Rattle.io_text.proofs.Sending.{sends_prefix, sends_last, sends_none, sends_err}
 use Rattle.text_drawing.specs.Showing.{tail_of, why_of}
-use Rattle.text_drawing.proofs.noting.add_end.Goals as goal
+use Rattle.text_drawing.proofs.whole.add_end.Goals as goal
 
 pub returns-in_err-add_why_of : goal.returns-in_err-add_why_of
 returns-in_err-add_why_of g c = sends_err _ _ _ _ _ _ c.from_residual.ensures.0

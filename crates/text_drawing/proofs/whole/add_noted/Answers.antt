@@ -3,7 +3,7 @@ use Rattle.io_text.proofs.Sending.{sends_prefix, sends_last, sends_more, sends_n
 use Rattle.text_drawing.specs.Notes.{noted_lines}
 use Rattle.text_drawing.specs.Pictures.{lines_drawn, of_picture}
 use Rattle.text_drawing.specs.Showing.{end_of, head_of}
-use Rattle.text_drawing.proofs.noting.add_noted.Goals as goal
+use Rattle.text_drawing.proofs.whole.add_noted.Goals as goal
 
 pub returns-in_err-add_head : goal.returns-in_err-add_head
 returns-in_err-add_head g c = sends_err _ _ _ _ _ _ c.from_residual.ensures.0

@@ -15,6 +15,7 @@ use crate::picture::{Picture, Style};
 use io_text::{Sink, TextBuffer, WriteFault};
 use text_power::add_why;
 
+/// Adds the notes on a rung after its last line, and nothing after any other line.
 fn add_notes_behind<W: Sink>(
     buffer: &mut TextBuffer,
     picture: Picture<'_>,
@@ -37,7 +38,7 @@ fn add_notes_behind<W: Sink>(
     }
 }
 
-/// Adds a line and its end.
+/// Adds a line of the drawing in its style: with marks in a text, with tags on a page.
 fn add_line<W: Sink>(
     buffer: &mut TextBuffer,
     picture: Picture<'_>,
@@ -54,6 +55,7 @@ fn add_line<W: Sink>(
     }
 }
 
+/// Adds a line of the drawing, and the notes that follow it.
 fn add_noted_line<W: Sink>(
     buffer: &mut TextBuffer,
     picture: Picture<'_>,
@@ -68,6 +70,7 @@ fn add_noted_line<W: Sink>(
     add_notes_behind(buffer, picture, line, writer)
 }
 
+/// Adds a line, unless it is the first, which the declarations end in, or an empty last one.
 fn add_kept_line<W: Sink>(
     buffer: &mut TextBuffer,
     picture: Picture<'_>,
@@ -86,6 +89,7 @@ fn add_kept_line<W: Sink>(
     }
 }
 
+/// Adds all lines of the drawing with the notes on their rungs.
 fn add_noted_lines<W: Sink>(
     buffer: &mut TextBuffer,
     picture: Picture<'_>,
@@ -100,7 +104,7 @@ fn add_noted_lines<W: Sink>(
     Ok(())
 }
 
-/// Adds what is above the lines.
+/// Adds what is written above the lines, by the style of the drawing.
 fn add_head<W: Sink>(
     buffer: &mut TextBuffer,
     picture: Picture<'_>,
@@ -120,6 +124,7 @@ fn add_head<W: Sink>(
     }
 }
 
+/// Adds why the coils of the variable that is explained have power, or none, after an empty line.
 fn add_why_on<W: Sink>(
     buffer: &mut TextBuffer,
     picture: Picture<'_>,
@@ -132,7 +137,7 @@ fn add_why_on<W: Sink>(
     add_why(buffer, picture.program, picture.marks, var, writer)
 }
 
-/// Adds why the coils that are asked for have power, or none.
+/// Adds why the coils of a variable have power, or none, where one is asked for.
 fn add_why_of<W: Sink>(
     buffer: &mut TextBuffer,
     picture: Picture<'_>,
@@ -146,7 +151,7 @@ fn add_why_of<W: Sink>(
     }
 }
 
-/// Adds what stands last.
+/// Adds what a drawing ends with, by its style: the values of the variables, and the end of a page.
 fn add_tail_of<W: Sink>(
     buffer: &mut TextBuffer,
     picture: Picture<'_>,
@@ -162,7 +167,7 @@ fn add_tail_of<W: Sink>(
     }
 }
 
-/// Adds what is below them.
+/// Adds what is written below the lines: why coils have power, if that is asked for, and the values of the variables.
 fn add_end<W: Sink>(
     buffer: &mut TextBuffer,
     picture: Picture<'_>,
@@ -174,6 +179,7 @@ fn add_end<W: Sink>(
     add_tail_of(buffer, picture, writer)
 }
 
+/// Adds the whole text of one scan: its head, the lines with their notes, and its end.
 fn add_noted<W: Sink>(
     buffer: &mut TextBuffer,
     picture: Picture<'_>,
@@ -187,7 +193,7 @@ fn add_noted<W: Sink>(
     add_end(buffer, picture, writer)
 }
 
-/// Writes the whole text.
+/// Writes the whole text of one scan, and empties the buffer.
 ///
 /// # Errors
 ///
@@ -201,6 +207,7 @@ pub(crate) fn write_noted<W: Sink>(picture: Picture<'_>, writer: &mut W) -> Resu
     buffer.flush(writer)
 }
 
+/// Adds what a film begins with: a page of HTML has a head, a text has none.
 fn add_film_start<W: Sink>(
     buffer: &mut TextBuffer,
     style: Style,
@@ -214,7 +221,7 @@ fn add_film_start<W: Sink>(
     }
 }
 
-/// Writes what stands before the drawings of a film.
+/// Writes what a film begins with, before its drawings.
 ///
 /// # Errors
 ///

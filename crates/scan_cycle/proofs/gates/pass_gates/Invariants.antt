@@ -2,7 +2,7 @@ use Rattle.std.proofs.Common.{◌≡◌, drop}
 use Rattle.diagram_program.specs.Gates.{gates_of}
 use Rattle.scan_cycle.specs.Programs.{diagram_of}
 use Rattle.scan_cycle.specs.Gating.{ran}
-use Rattle.scan_cycle.proofs.gates.run.Given as goal
+use Rattle.scan_cycle.proofs.gates.pass_gates.Given as goal
 
 abbrev pub invariant-loop-gate : goal.invariant-loop-gate
 invariant-loop-gate g l =

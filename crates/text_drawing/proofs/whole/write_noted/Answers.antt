@@ -1,7 +1,7 @@
 use Rattle.io_text.proofs.Sending.{flush_last}
 use Rattle.text_drawing.specs.Pictures.{of_picture}
 use Rattle.text_drawing.specs.Showing.{whole_of}
-use Rattle.text_drawing.proofs.noting.write_noted.Goals as goal
+use Rattle.text_drawing.proofs.whole.write_noted.Goals as goal
 
 pub returns : goal.returns
 returns g c =

@@ -2,7 +2,7 @@ use Rattle.std.proofs.Common.{◌≡◌, drop}
 use Rattle.diagram_program.specs.Gates.{gates_of}
 use Rattle.scan_cycle.specs.Programs.{diagram_of}
 use Rattle.scan_partial.specs.Evaluating.{ran_in}
-use Rattle.scan_partial.proofs.gates.run.Given as goal
+use Rattle.scan_partial.proofs.gates.pass_gates.Given as goal
 
 abbrev pub invariant-loop-gate : goal.invariant-loop-gate
 invariant-loop-gate g l =

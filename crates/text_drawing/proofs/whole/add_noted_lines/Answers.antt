@@ -5,7 +5,7 @@ use Rattle.io_text.proofs.Sending.{sends_err}
 use Rattle.text_drawing.specs.Notes.{kept_line}
 use Rattle.text_drawing.specs.Pictures.{lines_drawn, lines_of, of_picture}
 use Rattle.text_power.proofs.Each.{cut_off, more, none_yet}
-use Rattle.text_drawing.proofs.noting.add_noted_lines.Goals as goal
+use Rattle.text_drawing.proofs.whole.add_noted_lines.Goals as goal
 
 abbrev now : Bor (List ℕ) → List ℕ
 now f = f.now

@@ -1,7 +1,7 @@
 use Rattle.std.proofs.Common.{◌++◌, [], codes, refl}
 use Rattle.io_text.proofs.Sending.{sends_prefix, sends_last, sends_none, sends_err}
 use Rattle.text_power.specs.Why.{why}
-use Rattle.text_drawing.proofs.noting.add_why_on.Goals as goal
+use Rattle.text_drawing.proofs.whole.add_why_on.Goals as goal
 
 pub returns-in_err-add : goal.returns-in_err-add
 returns-in_err-add g c = sends_err _ _ _ _ _ _ c.from_residual.ensures.0

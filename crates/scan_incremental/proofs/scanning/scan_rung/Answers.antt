@@ -1,7 +1,7 @@
 use Rattle.std.proofs.Common.{◌∙◌, sym, ◌≤◌, arith}
 use Rattle.scan_cycle.specs.Programs.{diagram_of}
 use Rattle.scan_incremental.proofs.Frames.{rest_is_still, rest_goes_on}
-use Rattle.scan_incremental.proofs.scanning.pass.Goals as goal
+use Rattle.scan_incremental.proofs.scanning.scan_rung.Goals as goal
 
 pub returns-in-Some-clause-held : goal.returns-in-Some-clause-held
 returns-in-Some-clause-held c =
