@@ -9,9 +9,9 @@ use Rattle.scan_cycle.specs.Standing.{Fits, IsStanding, Standing}
 use Rattle.scan_cycle.proofs.ByList.{scanned_is}
 use Rattle.scan_cycle.proofs.Possible.{after_sound, scanned_possible, scanned_shapes}
 use Rattle.scan_cycle.proofs.Sizes.{scan_lengths}
-use Rattle.invariant_values.specs.Cases.{StaysForEver}
-use Rattle.invariant_values.specs.Never.{IsSo, OneScan, after_each}
-use Rattle.invariant_pairs.specs.Pairs.{AreApart, AreNeverBoth}
+use Rattle.invariant_sets.specs.Invariants.{StaysForEver}
+use Rattle.invariant_sets.specs.Never.{IsSo, OneScan, after_each}
+use Rattle.invariant_cases.specs.Allowing.{AreApart}
 use Rattle.causes_any_state.specs.Reached.{IsRun, RunsStay, reached}
 
 -- the state that one scan leaves
@@ -58,15 +58,15 @@ module _ (p : Drawing) (sound : IsSound (diagram_of p)) where
   stands_after [] s standing run = standing
   stands_after (scan ∷ more) s standing run = stands_after more (next p scan s) (next_stands scan s standing run.0 run.1) run.2
 
-pub runs_stay : (p : Drawing) → IsSound (diagram_of p) → StaysForEver p → AreNeverBoth p → RunsStay p
-runs_stay p sound never both s fits standing staying is scans run =
+pub runs_stay : (p : Drawing) → IsSound (diagram_of p) → StaysForEver p → RunsStay p
+runs_stay p sound law s fits standing staying is scans run =
     let held = held_is p scans s in
+    let still = law s fits standing staying.steady is.steady.set is.steady.so staying.apart is.apart is.steady.settled scans in
     record {
       fits = fits_after p sound scans s fits;
       standing = stands_after p sound scans s standing run;
       stays = record {
-        so = subst (λ (h : Held). IsSo staying.steady h) (sym held) (never s fits standing staying.steady is.steady.set is.steady.settled is.steady.so scans);
-        apart = subst (λ (h : Held). AreApart staying.apart h) (sym held)
-            (both s fits standing staying.steady is.steady.set is.steady.settled is.steady.so staying.apart is.apart scans);
+        so = subst (λ (h : Held). IsSo staying.steady h) (sym held) still.0;
+        apart = subst (λ (h : Held). AreApart staying.apart h) (sym held) still.1;
       };
     }

@@ -4,11 +4,10 @@ use Rattle.diagram_program.specs.Program.{Drawing}
 use Rattle.scan_cycle.specs.Programs.{diagram_of}
 use Rattle.scan_cycle.specs.Scan.{after_scan}
 use Rattle.scan_cycle.specs.Standing.{Standing, Fits, IsStanding}
-use Rattle.invariant_values.specs.Cases.{IsSteady}
-use Rattle.invariant_values.specs.Never.{OneScan}
-use Rattle.invariant_pairs.specs.Pairs.{ArePairs}
+use Rattle.invariant_sets.specs.Invariants.{IsStaying}
+use Rattle.invariant_sets.specs.Never.{OneScan}
 use Rattle.causes_any_state.specs.Possible.{StaysSo}
-use Rattle.causes_any_state.specs.declared.states.Staying.{Staying}
+use Rattle.invariant_sets.specs.declared.staying.Staying.{Staying}
 
 -- Some scans are a run: from a first moment on their moments don't fall, and they have 64 bits.
 abbrev pub IsRun : ℕ → List OneScan → Type 0
@@ -29,11 +28,6 @@ pub record IsReached (p : Drawing) (staying : Staying) (s : Standing) : Type 0 w
 abbrev pub AreReached : Drawing → Standing → Staying → Type 0
 AreReached p s staying = (scans : List OneScan) → IsRun s.moment scans → IsReached p staying (reached p scans s)
 
--- All that the set claims is settled to stay so from this state on, and the pairs to stay apart.
-pub record IsStaying (p : Drawing) (s : Standing) (staying : Staying) : Type 0 where
-  pub steady : IsSteady p s staying.steady
-  pub apart : ArePairs p s staying.steady staying.apart
-
--- So it is then so in each state that a run reaches.
+-- What stays so from this state on is so in each state that a run reaches.
 abbrev pub RunsStay : Drawing → Type 0
 RunsStay p = (s : Standing) → Fits p s → IsStanding s → (staying : Staying) → IsStaying p s staying → AreReached p s staying

@@ -65,6 +65,7 @@ fn signal(listed: &[usize], base: u64, state: &State, var: usize) -> Word64
     }
 }
 
+/// Gives each input its signal over the numbers of a batch.
 fn fill(listed: &[usize], base: u64, state: &State, inputs: &[usize], image: &mut [Word64])
     requires few { length listed.now ≤ 64 }
     requires as_many { length image.old ≡ length inputs.now }

@@ -6,7 +6,7 @@ ghost use Rattle.causes_any_state.specs.declared.content.TheConstants.{MOMENT};
 ghost use Rattle.scan_cycle.specs.Standing.{CanStore};
 
 use diagram_declarations::BlockKind;
-use invariant_values::Answer;
+use invariant_cases::Answer;
 use scan_signals::Stored;
 
 /// The moment of the states that are tried, and of their scan, at which each preset may have passed: some 50 days.
@@ -45,6 +45,7 @@ fn one_below(preset: u32) -> i16 {
     }
 }
 
+/// A counter that answers so, by the value that it has for each answer.
 fn counter(answer: Answer, on: i16, off: i16, input: i16, q: bool) -> Stored
     ensures { CanStore kind.Ctu MOMENT result }
 {

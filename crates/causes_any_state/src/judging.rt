@@ -2,7 +2,7 @@
 
 ghost use Rattle.std.specs.Prelude.{◌≡◌, ◌+◌, ◌<◌, ◌%◌, ◌^◌, length, true};
 ghost use Rattle.causes_query.specs.Listable.{IsListable};
-ghost use Rattle.invariant_values.specs.Never.{knowing};
+ghost use Rattle.invariant_sets.specs.Never.{knowing};
 ghost use Rattle.scan_partial.specs.Sizes.{AreAsLong};
 ghost use Rattle.causes_any_state.specs.Numbers.{IsBegun, MayKnowCoil, NoneLeaves};
 ghost use Rattle.causes_any_state.specs.Possible.{AreStatesOf, SomeLeaves, set_in};
@@ -16,12 +16,11 @@ use crate::query::{Knowing, StateQuery};
 use crate::seeking::seek;
 use crate::states::pairs;
 use diagram_declarations::Symbol;
-use invariant_pairs::Pair;
-use invariant_pairs::cases::settle_both;
-use invariant_pairs::laws::settled_both;
-use invariant_values::knowing::know;
-use invariant_values::pinning::pin;
-use invariant_values::{Outcome, Point};
+use invariant_cases::cases::settle;
+use invariant_cases::laws::settled_both;
+use invariant_cases::pinning::pin;
+use invariant_cases::{Outcome, Pair, Point, Question};
+use invariant_sets::knowing::know;
 use scan_partial::Knowledge;
 use scan_signals::Tri;
 
@@ -51,12 +50,12 @@ fn know_coil(asked: StateQuery<'_>, known: &mut Knowledge<Tri, Outcome>)
 fn know_set(asked: StateQuery<'_>, known: &mut Knowing)
     requires states { AreStatesOf asked.program.now asked.states.now }
     requires known { IsKnowing asked.program.now known.old }
-    ensures case { known.new.case ≡ knowing asked.entry.program.now (set_in asked.entry.states.now.staying known.new.none) }
+    ensures case { known.new.buffers.case ≡ knowing asked.entry.program.now (set_in asked.entry.states.now.staying known.new.none) }
     ensures known { IsKnowing asked.entry.program.now known.new }
 {
     match &asked.states.staying {
-        Some(staying) => know(asked.program, &staying.steady, &mut known.case),
-        None => know(asked.program, &known.none, &mut known.case),
+        Some(staying) => know(asked.program, &staying.steady, &mut known.buffers.case),
+        None => know(asked.program, &known.none, &mut known.buffers.case),
     }
 }
 
@@ -67,7 +66,7 @@ fn begin(asked: StateQuery<'_>, open_bits: u32, space: &mut StateBuffers)
     requires states { AreStatesOf asked.program.now asked.states.now }
     requires space { AreStateBuffers asked.program.now space.old }
     ensures begun { IsBegun asked.entry.program.now asked.entry.coil asked.entry.listed.now asked.entry.states.now.before open_bits asked.entry.number
-        (knowing asked.entry.program.now (set_in asked.entry.states.now.staying space.new.knowing.none)) space.new.knowing.case }
+        (knowing asked.entry.program.now (set_in asked.entry.states.now.staying space.new.knowing.none)) space.new.knowing.buffers.case }
     ensures space { AreStateBuffers asked.entry.program.now space.new }
 {
     let known = &mut space.knowing;
@@ -77,9 +76,9 @@ fn begin(asked: StateQuery<'_>, open_bits: u32, space: &mut StateBuffers)
         open_bits,
         asked.number,
         asked.program.decls().vars().len(),
-        &mut known.case,
+        &mut known.buffers.case,
     );
-    know_coil(asked, &mut known.case);
+    know_coil(asked, &mut known.buffers.case);
 }
 
 /// Whether at most so many scans settle that no state leaves the coil at the sought value with the number, whatever its last bits are, which
@@ -100,23 +99,15 @@ pub(crate) fn is_never(
 {
     settled_both(asked.program);
     begin(asked, open_bits, space);
-    let coil = Symbol::Var(asked.coil);
     // A pair of the coil with itself is ON where the coil is.
-    let search = settle_both(
-        asked.program,
-        &space.knowing.writers,
-        pairs(asked.states),
-        Pair {
-            first: coil,
-            second: coil,
-        },
-        !asked.sought,
-        &mut space.knowing.case,
-        &mut space.knowing.trial,
-        &mut space.knowing.room,
-        scans,
-    );
-    search.is_settled
+    let question = Question {
+        program: asked.program,
+        writers: &space.knowing.writers,
+        pairs: pairs(asked.states),
+        target: Pair::of_itself(Symbol::Var(asked.coil)),
+        wanted: !asked.sought,
+    };
+    settle(question, &mut space.knowing.buffers, scans).is_settled
 }
 
 /// What is settled of the number.

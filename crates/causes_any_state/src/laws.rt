@@ -3,18 +3,16 @@
 ghost use Rattle.causes_any_state.specs.Reached.{RunsStay};
 
 use diagram_program::Program;
-use invariant_pairs::laws::never_both;
-use invariant_values::laws::stays_for_ever;
+use invariant_sets::laws::stays_so;
 use scan_cycle::scene::checked;
 
 /// What is settled to stay so is so in each state that a run reaches.
 ///
-/// From a state of the program in which a set is OFF, and of no pair both are ON, and which are settled to stay so, any scans lead to a state of
+/// From a state of the program in which a set is so, and of no pair both are ON, and which are settled to stay so, any scans lead to a state of
 /// the program in which it is still so, with any inputs and at any moments that don't fall.
 pub fn reached(program: &Program)
     ensures { RunsStay program.now }
 {
     checked(program);
-    stays_for_ever(program);
-    never_both(program);
+    stays_so(program);
 }

@@ -24,6 +24,6 @@ pub use claim::Claim;
 pub use fault::PossibleGroupFault;
 pub use groups::{PossibleGroups, is_settled};
 pub use possible::{PossibleCause, PossibleCauses, PossibleQuery};
-pub use states::{States, Staying};
-pub use staying::staying_from;
+pub use states::States;
+pub use staying::staying_in_runs;
 pub use table::SETTLED;

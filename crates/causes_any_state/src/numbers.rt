@@ -4,7 +4,7 @@ ghost use Rattle.std.specs.Prelude.{◌≡◌, ◌==◌, ◌≤◌, length, posi
 ghost use Rattle.causes_any_state.specs.Numbers.{IsGiven, prefix_bit};
 
 use causes_query::source::{InputSource, bit};
-use invariant_values::Outcome;
+use invariant_cases::Outcome;
 use scan_partial::Knowledge;
 use scan_signals::Tri;
 

@@ -6,10 +6,9 @@ ghost use Rattle.causes_any_state.specs.Searching.{IsKnowing, IsTried};
 use crate::content::MOMENT;
 use crate::states::States;
 use diagram_program::Program;
-use invariant_values::{Outcome, Set, Writers};
+use invariant_cases::{CaseBuffers, Writers};
+use invariant_sets::Set;
 use scan_cycle::{Memory, State};
-use scan_partial::{Knowledge, Room};
-use scan_signals::Tri;
 use std::alloc::Global;
 
 /// What is asked of which number.
@@ -31,11 +30,8 @@ pub(crate) struct StateQuery<'a> {
 pub(crate) struct Knowing {
     /// It claims nothing: what is known where it is so is what is known of any state.
     pub none: Set,
-    /// What is known before a scan.
-    pub case: Knowledge<Tri, Outcome>,
-    /// What is known after it.
-    pub trial: Knowledge<Tri, Outcome>,
-    pub room: Room<Tri>,
+    /// What is known before a scan, and after it.
+    pub buffers: CaseBuffers,
     /// Where the program writes what.
     pub writers: Writers,
 }
@@ -49,18 +45,18 @@ pub(crate) struct Tried {
     pub scanned: State,
 }
 
+/// What a search of the program knows things in.
 pub(crate) fn new_knowing(alloc: Global, program: &Program) -> Result<Knowing, Memory>
     ensures { IfOk result (λ k. IsKnowing program.now k) }
 {
     Ok(Knowing {
         none: Set::none(alloc, program)?,
-        case: Knowledge::new(alloc, program)?,
-        trial: Knowledge::new(alloc, program)?,
-        room: Room::new(alloc, program)?,
+        buffers: CaseBuffers::new(alloc, program)?,
         writers: Writers::new(alloc, program)?,
     })
 }
 
+/// The states of the program that a search tries, at the moment at which all are.
 pub(crate) fn new_tried(alloc: Global, program: &Program) -> Result<Tried, Memory>
     ensures { IfOk result (λ t. IsTried program.now t) }
 {

@@ -9,11 +9,12 @@ use crate::buffers::StateBuffers;
 use crate::candidate::is_found;
 use crate::query::{Knowing, StateQuery};
 use crate::states::pairs;
-use invariant_pairs::partners::next_forced;
-use invariant_values::cases::look;
-use invariant_values::choosing::open_point;
-use invariant_values::pinning::{is_known, pin, pin_answer};
-use invariant_values::{Answer, Outcome, Point, ScanKnowledge};
+use diagram_declarations::Symbol;
+use invariant_cases::cases::look;
+use invariant_cases::choosing::open_point;
+use invariant_cases::partners::next_forced;
+use invariant_cases::pinning::{is_known, pin, pin_answer};
+use invariant_cases::{Answer, Outcome, Pair, Point, Question, ScanKnowledge};
 use scan_partial::Knowledge;
 use scan_signals::Tri;
 
@@ -55,8 +56,8 @@ fn next_point(asked: StateQuery<'_>, known: &Knowing) -> Option<Point> {
     let sight = ScanKnowledge {
         program: asked.program,
         writers: &known.writers,
-        before: &known.case,
-        after: &known.trial,
+        before: &known.buffers.case,
+        after: &known.buffers.trial,
     };
     open_point(sight, Point::Variable(asked.coil))
 }
@@ -80,20 +81,19 @@ pub(crate) fn seek(asked: StateQuery<'_>, space: &mut StateBuffers, scans: u32) 
         };
     }
     let left = scans - 1;
-    let coil = Point::Variable(asked.coil);
-    let known = &mut space.knowing;
-    let value = look(
-        asked.program,
-        coil,
-        &known.case,
-        &mut known.trial,
-        &mut known.room,
-    );
+    let question = Question {
+        program: asked.program,
+        writers: &space.knowing.writers,
+        pairs: pairs(asked.states),
+        target: Pair::of_itself(Symbol::Var(asked.coil)),
+        wanted: asked.sought,
+    };
+    let value = look(question, &mut space.knowing.buffers);
     if let Some(point) = next_point(asked, &space.knowing) {
         return by_cases(asked, point, space, left);
     }
     let is_found = !is_known(value, !asked.sought)
-        && is_found(asked, &space.knowing.case, &mut space.tried);
+        && is_found(asked, &space.knowing.buffers.case, &mut space.tried);
     Attempt {
         is_found,
         scans: left,
@@ -113,7 +113,7 @@ fn by_cases(asked: StateQuery<'_>, point: Point, space: &mut StateBuffers, scans
 {
     let mut left = scans;
     for case in 0..CASES.len() {
-        if choose(point, CASES[case], &mut space.knowing.case) {
+        if choose(point, CASES[case], &mut space.knowing.buffers.case) {
             let attempt = by_partners(asked, 0, space, left);
             if attempt.is_found {
                 return attempt;
@@ -121,7 +121,7 @@ fn by_cases(asked: StateQuery<'_>, point: Point, space: &mut StateBuffers, scans
             left = attempt.scans;
         }
     }
-    leave(point, &mut space.knowing.case);
+    leave(point, &mut space.knowing.buffers.case);
     Attempt {
         is_found: false,
         scans: left,
@@ -145,11 +145,11 @@ fn by_partners(
     ensures scans { result.scans ≤ scans }
     ensures space { AreStateBuffers asked.entry.program.now space.new }
 {
-    let Some(forced) = next_forced(pairs(asked.states), number, &space.knowing.case) else {
+    let Some(forced) = next_forced(pairs(asked.states), number, &space.knowing.buffers.case) else {
         return seek(asked, space, scans);
     };
-    pin(forced.point, Tri::Off, &mut space.knowing.case);
+    pin(forced.point, Tri::Off, &mut space.knowing.buffers.case);
     let attempt = by_partners(asked, forced.number + 1, space, scans);
-    leave(forced.point, &mut space.knowing.case);
+    leave(forced.point, &mut space.knowing.buffers.case);
     attempt
 }

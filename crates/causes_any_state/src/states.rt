@@ -3,25 +3,16 @@
 ghost use Rattle.std.specs.Prelude.{◌≡◌, ◌<◌, ℕ, Bool, IsTrue, false, length, slice_index_or};
 ghost use Rattle.diagram_declarations.specs.declared.kind.BlockKind.TheVariants.{Ton};
 ghost use Rattle.scan_signals.specs.Blocks.{new_block, q_of};
-ghost use Rattle.invariant_values.specs.Never.{IsSo, claims};
+ghost use Rattle.invariant_sets.specs.Never.{IsSo, claims};
 ghost use Rattle.scan_signals.specs.Three.{three_known};
 ghost use Rattle.causes_any_state.specs.Possible.{AreStatesOf, Counts, IsBefore, IsStayingOf, MayStay, StaysSo, pairs_of};
 
 use crate::before::Before;
 use diagram_program::Program;
-use invariant_pairs::{Pair, Pairs};
-use invariant_values::Set;
+use invariant_cases::Pair;
+use invariant_sets::{Set, Staying};
 use scan_cycle::State;
 use scan_signals::Tri;
-
-/// What stays so in each state that a run reaches.
-#[derive(Drop)]
-pub struct Staying {
-    /// What is OFF, and what is ON.
-    pub steady: Set,
-    /// Pairs of which not both are ON.
-    pub apart: Pairs,
-}
 
 /// Which states count.
 #[derive(Drop)]

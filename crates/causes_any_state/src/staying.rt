@@ -2,24 +2,22 @@
 
 ghost use Rattle.std.specs.Prelude.{IfOk};
 ghost use Rattle.scan_cycle.specs.Standing.{Fits};
-ghost use Rattle.invariant_pairs.specs.Pairs.{HasToldApart};
-ghost use Rattle.causes_any_state.specs.Reached.{AreReached, IsStaying};
+ghost use Rattle.invariant_sets.specs.Invariants.{IsStaying};
+ghost use Rattle.invariant_sets.specs.Pairs.{HasToldApart};
+ghost use Rattle.causes_any_state.specs.Reached.{AreReached};
 
 use crate::laws;
-use crate::states::Staying;
 use diagram_program::Program;
-use invariant_pairs::never_both;
-use invariant_values::never_changing;
+use invariant_sets::{Staying, staying_from};
 use scan_cycle::{Memory, State};
 use std::alloc::Global;
 
-/// What stays so in each state that a run from the state reaches: what never changes, as [`never_changing`] finds it with so many `scans`, and the
-/// pairs of which never both are ON, as [`never_both`] finds them with so many `pair_scans`.
+/// What stays so in each state that a run from the state reaches, as [`staying_from`] finds it.
 ///
 /// # Errors
 ///
 /// `Memory` when out of memory.
-pub fn staying_from(
+pub fn staying_in_runs(
     alloc: Global,
     program: &Program,
     state: &State,
@@ -33,7 +31,5 @@ pub fn staying_from(
 {
     laws::reached(program);
     state.checked();
-    let steady = never_changing(alloc, program, state, scans)?;
-    let apart = never_both(alloc, program, state, &steady, pair_scans)?;
-    Ok(Staying { steady, apart })
+    staying_from(alloc, program, state, scans, pair_scans)
 }

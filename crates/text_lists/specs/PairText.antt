@@ -1,7 +1,7 @@
 -- The text of pairs of which never both are ON: the names of each pair.
 use Rattle.std.specs.Prelude.{◌∷◌, ℕ, List, [], codes, map}
 use Rattle.diagram_program.specs.Program.{Drawing}
-use Rattle.invariant_pairs.specs.declared.pair.Pair.{Pair}
+use Rattle.invariant_cases.specs.declared.pair.Pair.{Pair}
 use Rattle.io_text.specs.Left.{Fields}
 use Rattle.io_text.specs.Text.{lines_text}
 use Rattle.diagram_declarations.specs.Decls.{symbol_name}

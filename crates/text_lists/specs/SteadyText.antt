@@ -4,7 +4,7 @@ use Rattle.std.specs.List.{flat_map}
 use Rattle.diagram_declarations.specs.declared.decls.Symbol.{Symbol}
 use Rattle.diagram_declarations.specs.declared.decls.Symbol.TheVariants as symbol
 use Rattle.diagram_program.specs.Program.{Drawing}
-use Rattle.invariant_values.specs.Never.{Bits, claims}
+use Rattle.invariant_sets.specs.Never.{Bits, claims}
 use Rattle.io_text.specs.Left.{Fields}
 use Rattle.io_text.specs.Text.{lines_text}
 use Rattle.scan_signals.specs.declared.tri.Tri.{Tri}

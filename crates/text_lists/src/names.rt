@@ -9,11 +9,12 @@ ghost use Rattle.text_lists.specs.SteadyText.{claim_of, claimed_rows, is_claimed
 
 use diagram_declarations::Symbol;
 use diagram_program::Program;
-use invariant_values::Set;
+use invariant_sets::Set;
 use io_text::{Sink, TextBuffer, WriteFault};
 use scan_signals::Tri;
 use text_cross_reference::{add_header, add_symbol, symbol_at, symbol_count};
 
+/// Whether a claim is that of the value.
 fn is_claimed(value: bool, claim: Tri) -> bool
     ensures { result ≡ is_claimed value claim }
 {

@@ -7,7 +7,8 @@ ghost use Rattle.io_text.specs.Buffer.{Sends};
 ghost use Rattle.io_text.specs.Log.{Puts};
 
 use diagram_program::Program;
-use invariant_pairs::{Pair, Pairs};
+use invariant_cases::Pair;
+use invariant_sets::Pairs;
 use io_text::{Sink, TextBuffer, WriteFault, add_line};
 
 /// Adds the line of a record with two fields.

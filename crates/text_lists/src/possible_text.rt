@@ -23,6 +23,7 @@ pub struct PossibleSummary {
     pub unsettled: u64,
 }
 
+/// The field that says whether a row is settled.
 fn mark(is_settled: bool) -> &'static [u8]
     ensures { result.now ≡ mark is_settled }
 {

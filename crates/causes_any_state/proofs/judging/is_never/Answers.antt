@@ -1,7 +1,7 @@
 use Rattle.std.proofs.Common.{List, not, subst}
 use Rattle.diagram_declarations.specs.declared.decls.Symbol.TheVariants as symbol
-use Rattle.invariant_pairs.specs.Pairs.{IsSettledBoth}
-use Rattle.invariant_pairs.specs.declared.pair.Pair.{Pair}
+use Rattle.invariant_cases.specs.Cases.{IsSettledBoth, of_itself}
+use Rattle.invariant_cases.specs.declared.pair.Pair.{Pair}
 use Rattle.causes_any_state.proofs.Covering.{is_never}
 use Rattle.causes_any_state.proofs.judging.is_never.Goals as goal
 
@@ -11,9 +11,9 @@ returns-clause-never c = λ yes.
     let coil = c.args.asked.coil in
     let begun = c.begin.ensures.begun in
     let space = c.begin.ensures.space in
-    let known = c.begin.new.space.knowing.case in
+    let known = c.begin.new.space.knowing.buffers.case in
     is_never p coil c.args.asked.listed.now c.args.asked.states.now c.args.asked.sought c.args.open_bits c.args.asked.number c.requires.aligned
     c.requires.listable c.requires.states c.begin.new.space.knowing.none space.knowing.no_variables space.knowing.no_instances known begun
     c.settled_both.ensures
-    (subst (λ (ps : List Pair). IsSettledBoth p ps (record { first = symbol.Var coil; second = symbol.Var coil }) (not c.args.asked.sought) known)
-    c.pairs.ensures (c.settle_both-search.ensures.settled yes))
+    (subst (λ (ps : List Pair). IsSettledBoth p ps (of_itself (symbol.Var coil)) (not c.args.asked.sought) known) c.pairs.ensures
+    (subst (λ (target : Pair). IsSettledBoth p c.pairs.result.now target (not c.args.asked.sought) known) c.of_itself.ensures (c.settle.ensures.settled yes)))

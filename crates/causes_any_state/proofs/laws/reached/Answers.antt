@@ -2,4 +2,4 @@ use Rattle.causes_any_state.proofs.Running.{runs_stay}
 use Rattle.causes_any_state.proofs.laws.reached.Goals as goal
 
 pub returns : goal.returns
-returns c = runs_stay c.args.program.now c.checked.ensures c.stays_for_ever.ensures c.never_both.ensures
+returns c = runs_stay c.args.program.now c.checked.ensures c.stays_so.ensures

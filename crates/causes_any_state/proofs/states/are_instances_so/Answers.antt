@@ -1,8 +1,8 @@
-use Rattle.std.proofs.Common.{◌≡◌, ◌∙◌, ℕ, Bool, ap, arith, inl, inr, refl, slice_index_or, subst, sym}
+use Rattle.std.proofs.Common.{◌≡◌, ◌∙◌, ℕ, ap, arith, inl, inr, refl, slice_index_or, subst, sym}
 use Rattle.std.proofs.lemmas.Bool.{cases_lt}
 use Rattle.diagram_declarations.specs.declared.kind.BlockKind.TheVariants.{Ton}
 use Rattle.scan_signals.specs.Blocks.{new_block, q_of}
-use Rattle.invariant_values.specs.Never.{claims}
+use Rattle.invariant_sets.specs.Never.{claims}
 use Rattle.scan_signals.specs.Three.{three_known}
 use Rattle.causes_any_state.proofs.states.are_instances_so.Goals as goal
 

@@ -1,7 +1,7 @@
 use Rattle.std.proofs.Common.{◌≡◌, ◌<◌, ℕ, Bool, slice_index_or}
 use Rattle.diagram_declarations.specs.declared.kind.BlockKind.TheVariants.{Ton}
 use Rattle.scan_signals.specs.Blocks.{new_block, q_of}
-use Rattle.invariant_values.specs.Never.{claims}
+use Rattle.invariant_sets.specs.Never.{claims}
 use Rattle.scan_signals.specs.Three.{three_known}
 use Rattle.causes_any_state.proofs.states.are_instances_so.Given as goal
 

@@ -1,6 +1,6 @@
-use Rattle.std.proofs.Common.{◌≡◌, ◌∙◌, ℕ, Bool, arith, inl, inr, refl, slice_index_or, false, subst, sym}
+use Rattle.std.proofs.Common.{◌≡◌, ◌∙◌, ℕ, arith, inl, inr, refl, slice_index_or, false, subst, sym}
 use Rattle.std.proofs.lemmas.Bool.{cases_lt}
-use Rattle.invariant_values.specs.Never.{claims}
+use Rattle.invariant_sets.specs.Never.{claims}
 use Rattle.scan_signals.specs.Three.{three_known}
 use Rattle.causes_any_state.proofs.states.are_variables_so.Goals as goal
 

@@ -1,5 +1,5 @@
 use Rattle.std.proofs.Common.{◌≡◌, ◌<◌, ℕ, Bool, false, slice_index_or}
-use Rattle.invariant_values.specs.Never.{claims}
+use Rattle.invariant_sets.specs.Never.{claims}
 use Rattle.scan_signals.specs.Three.{three_known}
 use Rattle.causes_any_state.proofs.states.are_variables_so.Given as goal
 

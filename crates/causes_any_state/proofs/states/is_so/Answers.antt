@@ -1,5 +1,5 @@
 use Rattle.std.proofs.Common.{◌≡◌, ◌∙◌, ap, arith, length, refl, sym}
-use Rattle.invariant_values.proofs.Claims.{claim_within}
+use Rattle.invariant_sets.proofs.Claims.{claim_within}
 use Rattle.causes_any_state.proofs.states.is_so.Goals as goal
 
 pub returns-then-are_variables_so : goal.returns-then-are_variables_so

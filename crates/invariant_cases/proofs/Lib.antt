@@ -1,0 +1,3 @@
+mod PinnedTwice
+pub mod Settling
+pub mod Values

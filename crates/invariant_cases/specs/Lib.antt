@@ -1,0 +1,6 @@
+pub mod Allowing
+pub mod AnswerLaws
+pub mod Buffers
+pub mod Cases
+pub mod OutcomeLaws
+pub mod Outcomes

@@ -1,3 +1,0 @@
-pub mod Apart
-mod Kept
-mod Told

@@ -1,0 +1,9 @@
+mod Begun
+pub mod Claims
+pub mod ForEver
+mod Kept
+mod Larger
+mod Left
+pub mod Listed
+mod Settled
+mod Told

@@ -1,0 +1,33 @@
+use Rattle.std.proofs.Common.{arith, rules, subst}
+use Rattle.diagram_declarations.specs.declared.decls.Symbol.TheVariants.{Var}
+use Rattle.scan_symbolic.specs.KnownScan.{Known}
+use Rattle.scan_signals.specs.declared.tri.Tri.{Tri}
+use Rattle.invariant_cases.specs.declared.outcome.Outcome.{Outcome}
+use Rattle.invariant_sets.specs.Removing.{IsLeftSo}
+use Rattle.invariant_sets.proofs.Left.{claim_goes, claim_stays, same_left}
+use Rattle.invariant_sets.proofs.Settled.{kept_on}
+use Rattle.invariant_sets.proofs.removing_claims.leave_variables.Goals.{then-not-keeps, else-not-keeps}
+use Rattle.invariant_sets.proofs.removing_claims.leave_variables.Goals as goal
+
+pub loop-var-preserved : goal.loop-var-preserved
+loop-var-preserved c =
+    let r = c.args.round in
+    let inv = c.loop-var.invariant in
+    let buffers = kept_on r.program.now _ _ _ inv.buffers c.keeps.ensures.buffers in
+    elim c.if-not-keeps.branch [
+      | then-not-keeps w ↦ record {
+        left = same_left _ _ c.args.variables.now _ _ _ _ _ w.variables-is w.removed-is
+            (claim_goes _ _ c.args.variables.now c.loop-var.variables _ c.loop-var.var inv.left (omega (arith, c.loop-var-test.true, c.loop-var.auto.variables)) c.keeps.result
+            w.if-not-keeps.true _ c.keeps.ensures.told c.keeps.ensures.open);
+        few = search rules;
+        buffers = buffers;
+      }
+      | else-not-keeps w ↦ record {
+        left = same_left _ _ c.args.variables.now _ _ _ _ _ w.variables-is w.removed-is
+            (claim_stays _ _ c.args.variables.now c.loop-var.variables _ c.loop-var.var inv.left (omega (arith, c.loop-var-test.true, c.loop-var.auto.variables)) c.keeps.result
+            w.if-not-keeps.false _
+            (λ kept value m. subst (λ (k : Known Tri Outcome). IsLeftSo r.program.now r.pairs.now (Var c.loop-var.var) r.after.now k r.scans value) inv.buffers.case (c.keeps.ensures.stays kept value m)));
+        few = search rules;
+        buffers = buffers;
+      }
+    ]

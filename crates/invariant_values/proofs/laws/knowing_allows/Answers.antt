@@ -1,5 +1,0 @@
-use Rattle.invariant_values.proofs.ForEver.{knowing_allows}
-use Rattle.invariant_values.proofs.laws.knowing_allows.Goals as goal
-
-pub returns : goal.returns
-returns c = knowing_allows c.args.program.now

@@ -1,8 +1,0 @@
-use Rattle.scan_cycle.specs.Programs.{diagram_of}
-use Rattle.invariant_values.proofs.ForEver.{stays_for_ever}
-use Rattle.invariant_values.proofs.laws.stays_for_ever.Goals as goal
-
-pub returns : goal.returns
-returns c =
-    let d = diagram_of c.args.program.now in
-    stays_for_ever c.args.program.now c.checked.ensures (λ now. c.scan_keeps.ensures (record { now = now }) d) c.known_is_scan.ensures
