@@ -1,6 +1,5 @@
 mod Deciding
 mod Endings
+mod Forms
 mod PossibleEnds
-mod PossibleGroupEnds
-mod PartEnds
 mod ProgressEnds

@@ -1,19 +1,26 @@
 -- How a list of what some state, or every one, switches on ends.
-use Rattle.std.proofs.Common.{◌≡◌, ◌∙◌, ◌⊎◌, ◌^◌, ℕ, Bool, true, false, List, None, Option, Some, ap, inl, inr, length, subst, sym}
+use Rattle.std.proofs.Common.{◌≡◌, ◌∙◌, ◌⊎◌, ◌^◌, ℕ, Bool, true, false, List, None, Option, Some, ap, inl, inr, length, refl, subst, sym}
+use Rattle.std.specs.Prelude.{IfSome, count_by, not}
 use Rattle.diagram_program.specs.Program.{Drawing}
 use Rattle.causes_query.specs.Causes.{Question}
 use Rattle.causes_query.specs.Refusal.{refusal}
 use Rattle.causes_any_state.specs.Possible.{AreRows, AreStatesOf, MayBeOf, PossibleCursor}
-use Rattle.causes_any_state.specs.declared.states.Staying.{Staying}
+use Rattle.invariant_sets.specs.declared.staying.Staying.{Staying}
 use Rattle.scan_cycle.specs.Standing.{Standing}
 use Rattle.causes_any_state.specs.declared.possible.PossibleCause.{PossibleCause}
+use Rattle.causes_any_state.specs.Cursor.{PossibleGroupCursor}
+use Rattle.search_groups.specs.Classes.{numbers_in}
+use Rattle.text_causes.specs.CauseText.{limited}
+use Rattle.text_lists.specs.ClassText.{possible_group_text, unsettled_in}
 use Rattle.text_lists.specs.PossibleText.{AreAll, AreFew, Gave, IsCount, possible_text}
+use Rattle.text_lists.specs.declared.possible_group_text.PossibleGroupSummary.{PossibleGroupSummary}
 use Rattle.text_lists.specs.declared.possible_text.PossibleSummary.{PossibleSummary}
-use Rattle.io_text.specs.Log.{PutsAll, WriteLog}
-use Rattle.cli_arguments.specs.declared.request.PossibleRequest.{PossibleRequest}
-use Rattle.cli_lists.specs.Query.{AsksFor}
-use Rattle.cli_lists.specs.Lists.{CountsPossible, IsAskedOfAll, IsStayingBy, ListsPossible, counted, possible_line, unless_quiet}
 use Rattle.cli_inputs.specs.Setting.{Given}
+use Rattle.cli_arguments.specs.declared.request.PossibleRequest.{PossibleRequest}
+use Rattle.cli_lists.specs.declared.counting.ListCounts.{ListCounts}
+use Rattle.cli_lists.specs.declared.counting.ListCounts.TheVariants as counts
+use Rattle.cli_lists.specs.Query.{AsksFor, at_stored}
+use Rattle.cli_lists.specs.Lists.{IsNamed, IsStayingBy, PossibleList, counted, possible_group_counts}
 
 -- What stays so is said of the program's own names.
 of_program : (p : Drawing) (off : Bool) (staying : Option Staying) → MayBeOf p staying → AreStatesOf p (counted off staying)
@@ -25,34 +32,55 @@ states_of false off p s staying none = of_program p off staying (subst (λ (x : 
 states_of true off p s staying (known, same, is, reached, told) =
     of_program p off staying (subst (λ (x : Option Staying). MayBeOf p x) (sym same) (record { set = is.steady.set; apart = is.apart.outside }))
 
-pub lists : (g : Given) (r : PossibleRequest) (q : Question) (c d : PossibleCursor) (rows : List PossibleCause) (Written : List ℕ → Type 0) → IsAskedOfAll g r q
-    → refusal q None ≡ None → AsksFor r q c → Gave c rows d → AreFew r.limit rows → Written (possible_text c.program c.listed rows) → ListsPossible g r Written
-lists g r q c d rows Written asked accepted made gave few written = record {
-  question = q;
-  asked = asked;
-  accepted = accepted;
-  staying = made.staying;
-  stays = made.stays;
-  rows = rows;
-  few = few;
-  to = d.from;
-  are = subst (λ (x : PossibleCursor). AreRows x.program x.coil x.listed x.states x.claim x.from d.from rows) made.same gave.rows_are;
-  written = subst (λ (x : PossibleCursor). Written (possible_text x.program x.listed rows)) made.same written;
-}
+pub asked_of_all : (g : Given) (coil : List ℕ) (all : Bool) (inputs : List (List ℕ)) (q : Question) → IsNamed g coil None all inputs q → IsNamed g coil None all inputs (at_stored q)
+asked_of_all g coil all inputs q h = (record { set = h.0.set; at = refl; on = h.0.on }, h.1)
 
-all_of : (r : PossibleRequest) (q : Question) (c d : PossibleCursor) (rows : List PossibleCause) (limit : Option ℕ) → AsksFor r q c → Gave c rows d → AreAll d rows limit
-    → (d.from ≡ 2 ^ length q.listed) ⊎ (limit ≡ Some (length rows))
-all_of r q c d rows limit made gave (inl e) =
-    inl (e ∙ ap (λ (xs : List ℕ). 2 ^ length xs) (ap (λ (x : PossibleCursor). x.listed) gave.same ∙ ap (λ (x : PossibleCursor). x.listed) made.same))
-all_of r q c d rows limit made gave (inr e) = inr e
+-- ---- a row for each number
 
-pub counts : (g : Given) (r : PossibleRequest) (q : Question) (c d : PossibleCursor) (rows : List PossibleCause) (out out' : WriteLog) (Counted : List ℕ → Type 0)
-    → (s : PossibleSummary) → IsAskedOfAll g r q → refusal q None ≡ None → AsksFor r q c → Gave c rows d → AreFew r.limit rows → PutsAll out out' (possible_text c.program c.listed rows)
-    → IsCount s rows → AreAll d rows r.limit → Counted (unless_quiet r.quiet (possible_line s.rows s.unsettled)) → CountsPossible g r out out' Counted
-unfolding lists
-counts g r q c d rows out out' Counted s asked accepted made gave few written counted all said = record {
-  list = lists g r q c d rows (PutsAll out out') asked accepted made gave few written;
-  all = all_of r q c d rows r.limit made gave all;
-  count = subst Counted
-      (ap (λ n. unless_quiet r.quiet (possible_line n s.unsettled)) counted.0 ∙ ap (λ n. unless_quiet r.quiet (possible_line (length rows) n)) counted.1) said;
-}
+module _ (r : PossibleRequest) (q : Question) (c d : PossibleCursor) (rows : List PossibleCause) (accepted : refusal q None ≡ None) (made : AsksFor r q c)
+    (gave : Gave c rows d) (few : AreFew r.limit rows) where
+  counted_by : (n : Option ListCounts) → IfSome n (λ _. (d.from ≡ 2 ^ length q.listed) ⊎ (r.limit ≡ Some (length rows)))
+      → IfSome n (λ m. m ≡ counts.Possible (record { rows = length rows; unsettled = count_by (λ row. not row.is_settled) rows }))
+      → PossibleList r q (possible_text c.program c.listed rows) n
+  counted_by n all count = record {
+    accepted = accepted;
+    staying = made.staying;
+    stays = made.stays;
+    rows = rows;
+    few = few;
+    to = d.from;
+    are = subst (λ (x : PossibleCursor). AreRows x.program x.coil x.listed x.states x.claim x.from d.from rows) made.same gave.rows_are;
+    written = ap (λ (x : PossibleCursor). possible_text x.program x.listed rows) made.same;
+    all = all;
+    count = count;
+  }
+
+  pub are_some : PossibleList r q (possible_text c.program c.listed rows) None
+  are_some = counted_by None tt tt
+
+  all_of : AreAll d rows r.limit → (d.from ≡ 2 ^ length q.listed) ⊎ (r.limit ≡ Some (length rows))
+  all_of (inl e) =
+      inl (e ∙ ap (λ (xs : List ℕ). 2 ^ length xs) (ap (λ (x : PossibleCursor). x.listed) gave.same ∙ ap (λ (x : PossibleCursor). x.listed) made.same))
+  all_of (inr e) = inr e
+
+  pub are_all : (s : PossibleSummary) → IsCount s rows → AreAll d rows r.limit → PossibleList r q (possible_text c.program c.listed rows) (Some (counts.Possible s))
+  are_all s count all = counted_by (Some (counts.Possible s)) (all_of all)
+      (ap (λ (n : ℕ). counts.Possible (record { rows = n; unsettled = s.unsettled })) count.0
+      ∙ ap (λ (n : ℕ). counts.Possible (record { rows = length rows; unsettled = n })) count.1)
+
+-- ---- in groups
+
+module _ (r : PossibleRequest) (q : Question) (c : PossibleGroupCursor) (of_program : c.program ≡ q.program) (of_listed : c.listed ≡ q.listed) where
+  pub groups_text_is : possible_group_text c.program c.listed (limited r.limit c.rest) ≡ possible_group_text q.program q.listed (limited r.limit c.rest)
+  groups_text_is =
+      ap (λ (d : Drawing). possible_group_text d c.listed (limited r.limit c.rest)) of_program
+      ∙ ap (λ (xs : List ℕ). possible_group_text q.program xs (limited r.limit c.rest)) of_listed
+
+  pub group_counts_are : (s : PossibleGroupSummary) → s.rows ≡ length (limited r.limit c.rest) → s.causes ≡ numbers_in (length c.listed) (limited r.limit c.rest)
+      → s.unsettled ≡ unsettled_in (length c.listed) (limited r.limit c.rest) → counts.PossibleGroups s ≡ possible_group_counts (length q.listed) (limited r.limit c.rest)
+  group_counts_are s many all unsure =
+      let groups = limited r.limit c.rest in
+      ap (λ (n : ℕ). counts.PossibleGroups (record { rows = n; causes = s.causes; unsettled = s.unsettled })) many
+      ∙ ap (λ (n : ℕ). counts.PossibleGroups (record { rows = length groups; causes = n; unsettled = s.unsettled })) all
+      ∙ ap (λ (n : ℕ). counts.PossibleGroups (record { rows = length groups; causes = numbers_in (length c.listed) groups; unsettled = n })) unsure
+      ∙ ap (λ (xs : List ℕ). possible_group_counts (length xs) groups) of_listed

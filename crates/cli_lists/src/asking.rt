@@ -1,9 +1,9 @@
 //! What a request for a list of causes asks.
 
-ghost use Rattle.std.specs.Prelude.{◌≡◌, ◌⊎◌, IfErr, IfOk};
+ghost use Rattle.std.specs.Prelude.{◌∷◌, ◌⊎◌, IfErr, IfOk, map, string_bytes};
 ghost use Rattle.scan_cycle.specs.Standing.{Fits};
 ghost use Rattle.cli_lists.specs.Query.{question_of};
-ghost use Rattle.cli_lists.specs.Lists.{HasNameFault, IsAsked};
+ghost use Rattle.cli_lists.specs.Lists.{HasNameFault, IsAsked, IsNamed, names_of};
 ghost use Rattle.cli_inputs.specs.Setting.{HasSettingFault, given_by};
 
 use cli_arguments::ListRequest;
@@ -22,30 +22,26 @@ pub(crate) struct ListQuery {
     pub inputs: Vec<usize>,
 }
 
-/// Reads the program text, the state text where there is one, and the names.
+/// Reads the program text, the state text where there is one, and the names of the coil and the inputs.
 pub(crate) fn read_question(
     alloc: Global,
-    request: &ListRequest,
     texts: &Texts,
+    asked_moment: Option<u64>,
+    coil: &str,
+    all_inputs: bool,
+    inputs: &[String],
 ) -> Result<ListQuery, ToolFault>
     ensures fits { IfOk result (λ a. Fits a.program a.state) }
-    ensures asked { IfOk result (λ a. IsAsked (given_by texts.now) request.now (question_of a)) }
-    ensures fault { IfErr result (λ f. HasSettingFault (given_by texts.now) f ⊎ HasNameFault (given_by texts.now) request.now f) }
+    ensures asked { IfOk result (λ a. IsNamed (given_by texts.now) coil.now asked_moment all_inputs (map string_bytes inputs.now) (question_of a)) }
+    ensures fault { IfErr result (λ f. HasSettingFault (given_by texts.now) f ⊎ HasNameFault (given_by texts.now) (coil.now ∷ map string_bytes inputs.now) f) }
 {
     let Setting { program, state } = match read_setting(alloc, texts) {
         Ok(setting) => setting,
         Err(fault) => return Err(fault),
     };
-    let named = asked_variables(
-        alloc,
-        program.decls(),
-        request.coil.as_str(),
-        request.all_inputs,
-        &request.inputs,
-    );
-    match named {
+    match asked_variables(alloc, program.decls(), coil, all_inputs, inputs) {
         Ok(named) => {
-            let moment = moment(request.moment, state.moment());
+            let moment = moment(asked_moment, state.moment());
             Ok(ListQuery {
                 program,
                 state,
@@ -56,4 +52,25 @@ pub(crate) fn read_question(
         }
         Err(fault) => Err(fault),
     }
+}
+
+/// Reads what a request asks.
+pub(crate) fn read_request(
+    alloc: Global,
+    request: &ListRequest,
+    texts: &Texts,
+) -> Result<ListQuery, ToolFault>
+    ensures fits { IfOk result (λ a. Fits a.program a.state) }
+    ensures asked { IfOk result (λ a. IsAsked (given_by texts.now) request.now (question_of a)) }
+    ensures fault { IfErr result (λ f. HasSettingFault (given_by texts.now) f ⊎ HasNameFault (given_by texts.now) (names_of request.now) f) }
+{
+    let (coil, inputs) = (request.coil.as_str(), request.inputs.as_slice());
+    read_question(
+        alloc,
+        texts,
+        request.moment,
+        coil,
+        request.all_inputs,
+        inputs,
+    )
 }

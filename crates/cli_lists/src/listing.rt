@@ -1,99 +1,127 @@
-//! A request for the causes of a coil.
+//! A request for the causes of a coil: for all of them, or for those after a number and up to another.
 
-ghost use Rattle.std.specs.Prelude.{◌≡◌, ◌≤◌, ◌⊎◌};
-ghost use Rattle.io_text.specs.Log.{Puts, PutsAll, WriteLog};
-ghost use Rattle.scan_cycle.specs.Standing.{Fits};
+ghost use Rattle.std.specs.Prelude.{◌≡◌, ◌≤◌, ◌⊎◌, IfErr, IfOk, None};
+ghost use Rattle.io_text.specs.Log.{PutsAll, WriteLog};
+ghost use Rattle.causes_one_scan.specs.Cursor.{first_number, looks_of, searched};
+ghost use Rattle.causes_one_scan.specs.Prefixes.{search_of};
 ghost use Rattle.cli_lists.specs.Query.{question_of};
-ghost use Rattle.causes_query.specs.Refusal.{refusal};
+ghost use Rattle.cli_lists.specs.Lists.{BreaksList, CountsList, HasListFault, end_refusal, list_refusal};
+ghost use Rattle.causes_query.specs.Causes.{causes_after};
+ghost use Rattle.scan_cycle.specs.Standing.{Fits};
 ghost use Rattle.cli_inputs.specs.Reports.{HasCauseFault, Refuses, logs};
-ghost use Rattle.cli_lists.specs.Lists.{BreaksList, BreaksOf, CountsList, CountsOf, HasListFault, rows_line, unless_quiet};
 ghost use Rattle.cli_inputs.specs.Setting.{given_by};
 
-use crate::asking::{ListQuery, read_question};
+use crate::asking::ListQuery;
+use crate::counting::ListCounts;
+use crate::ending::{ListForm, list_request};
 use causes_one_scan::Causes;
+use causes_query::CauseFault;
+use causes_query::refusal::refusal;
 use cli_arguments::ListRequest;
-use cli_inputs::{Texts, ToolFault, report};
-use io_text::{Piece, Sink, WriteFault, put_pieces};
+use cli_inputs::{Texts, ToolFault};
+use io_text::Sink;
 use std::alloc::Global;
-use text_causes::{Summary, write_causes};
+use text_causes::write_upto;
 
-pub(crate) fn put_rows<E: Sink>(
-    quiet: bool,
-    summary: Summary,
-    err: &mut E,
-) -> Result<(), WriteFault>
-    ensures { Puts (E.log err.old) (E.log err.new) result (unless_quiet quiet (rows_line summary.rows summary.looks)) }
-{
-    if quiet {
-        return Ok(());
-    }
-    let pieces = [
-        Piece::Text(b"rows "),
-        Piece::Number(summary.rows),
-        Piece::Text(b" looks "),
-        Piece::Number(summary.looks),
-        Piece::Text(b"\n"),
-    ];
-    put_pieces(err, pieces.as_slice())
+/// A row for each cause: for those after a number and up to another, where there are such.
+#[derive(Clone, Copy)]
+pub(crate) struct CauseRows {
+    pub after: Option<u64>,
+    pub upto: Option<u64>,
+    pub limit: Option<u64>,
 }
 
-/// Lists the causes of what is asked, after a number where there is one.
-pub(crate) fn list_asked<O: Sink, E: Sink>(
-    alloc: Global,
-    request: &ListRequest,
-    after: Option<u64>,
-    asked: &ListQuery,
-    texts: &Texts,
-    out: &mut O,
-    err: &mut E,
-) -> u8
-    requires fits { Fits asked.now.program asked.now.state }
-    ensures status { result ≤ 1 }
-    ensures done { result ≡ 0 → CountsOf (question_of asked.now) request.now after (O.log out.old) (O.log out.new) (PutsAll (E.log err.old) (E.log err.new)) }
-    ensures failed { (save : WriteLog) → result ≡ 1
-        → Refuses (given_by texts.now) (HasCauseFault (refusal (question_of asked.now) after)) (logs (O.log out.old) save (E.log err.old)) (logs (O.log out.new) save (E.log err.new))
-        ⊎ BreaksOf (given_by texts.now) (question_of asked.now) request.now after (logs (O.log out.old) save (E.log err.old)) (logs (O.log out.new) save (E.log err.new)) }
+/// The first rule that is broken by what is asked with the number to end at, where there is one.
+fn end_refusal(upto: Option<u64>, asked: &ListQuery) -> Option<CauseFault>
+    ensures { result ≡ end_refusal upto (question_of asked.now) }
 {
-    let mut cursor = match Causes::new(
+    match upto {
+        Some(last) => refusal(
+            &asked.program,
+            &asked.state,
+            asked.moment,
+            asked.coil,
+            &asked.inputs,
+            Some(last),
+        ),
+        None => None,
+    }
+}
+
+/// The cursor over the causes from the first one on that is asked for.
+pub(crate) fn cursor_of<'a>(
+    alloc: Global,
+    rows: CauseRows,
+    asked: &'a ListQuery,
+) -> Result<Causes<'a>, CauseFault>
+    requires fits { Fits asked.now.program asked.now.state }
+    ensures program { IfOk result (λ c. c.program ≡ asked.now.program) }
+    ensures listed { IfOk result (λ c. c.listed ≡ asked.now.inputs.items) }
+    ensures rest { IfOk result (λ c. c.rest ≡ causes_after rows.after (question_of asked.now)) }
+    ensures search { IfOk result (λ c. searched c ≡ search_of (question_of asked.now) (first_number rows.after)) }
+    ensures looks { IfOk result (λ c. looks_of c ≡ 0) }
+    ensures accepted { IfOk result (λ _. list_refusal rows.after rows.upto (question_of asked.now) ≡ None) }
+    ensures refused { IfErr result (λ e. HasCauseFault (list_refusal rows.after rows.upto (question_of asked.now)) (ToolFault.Cause e)) }
+{
+    if let Some(fault) = end_refusal(rows.upto, asked) {
+        return Err(fault);
+    }
+    Causes::new(
         alloc,
         &asked.program,
         &asked.state,
         asked.moment,
         asked.coil,
         &asked.inputs,
-        after,
-    ) {
-        Ok(cursor) => cursor,
-        Err(fault) => return report(texts, &ToolFault::Cause(fault), err),
-    };
-    let written = write_causes(&mut cursor, request.limit, out);
-    drop(cursor);
-    let Ok(summary) = written else {
-        return report(texts, &ToolFault::Write, err);
-    };
-    let Ok(()) = put_rows(request.quiet, summary, err) else {
-        return 1;
-    };
-    0
+        rows.after,
+    )
 }
 
-/// Lists the causes of the coil in the state of the texts, after a number where there is one.
+impl ListForm for CauseRows {
+    ghost use Rattle.cli_inputs.specs.Reports.{HasCauseFault};
+    ghost use Rattle.cli_lists.specs.Lists.{CauseList, list_refusal};
+
+    ghost is_list = { λ f. CauseList f.limit f.after f.upto };
+
+    ghost refuses = { λ f q. HasCauseFault (list_refusal f.after f.upto q) };
+
+    fn write<O: Sink>(
+        &self,
+        alloc: Global,
+        asked: ListQuery,
+        out: &mut O,
+    ) -> Result<ListCounts, ToolFault> {
+        let mut causes = match cursor_of(alloc, *self, &asked) {
+            Ok(causes) => causes,
+            Err(fault) => return Err(ToolFault::Cause(fault)),
+        };
+        match write_upto(&mut causes, self.upto, self.limit, out) {
+            Ok(summary) => Ok(ListCounts::Causes(summary)),
+            Err(_) => Err(ToolFault::Write),
+        }
+    }
+}
+
+/// Lists the causes of the coil in the state of the texts, after a number and up to another where there are such.
 pub fn list_causes<O: Sink, E: Sink>(
     alloc: Global,
     request: &ListRequest,
     after: Option<u64>,
+    upto: Option<u64>,
     texts: &Texts,
     out: &mut O,
     err: &mut E,
 ) -> u8
     ensures status { result ≤ 1 }
-    ensures done { result ≡ 0 → CountsList (given_by texts.now) request.now after (O.log out.old) (O.log out.new) (PutsAll (E.log err.old) (E.log err.new)) }
+    ensures done { result ≡ 0 → CountsList (given_by texts.now) request.now after upto (O.log out.old) (O.log out.new) (PutsAll (E.log err.old) (E.log err.new)) }
     ensures failed { (save : WriteLog) → result ≡ 1
-        → Refuses (given_by texts.now) (HasListFault (given_by texts.now) request.now after) (logs (O.log out.old) save (E.log err.old)) (logs (O.log out.new) save (E.log err.new))
-        ⊎ BreaksList (given_by texts.now) request.now after (logs (O.log out.old) save (E.log err.old)) (logs (O.log out.new) save (E.log err.new)) }
+        → Refuses (given_by texts.now) (HasListFault (given_by texts.now) request.now after upto) (logs (O.log out.old) save (E.log err.old)) (logs (O.log out.new) save (E.log err.new))
+        ⊎ BreaksList (given_by texts.now) request.now after upto (logs (O.log out.old) save (E.log err.old)) (logs (O.log out.new) save (E.log err.new)) }
 {
-    match read_question(alloc, request, texts) {
-        Ok(asked) => list_asked(alloc, request, after, &asked, texts, out, err),
-        Err(fault) => report(texts, &fault, err),
-    }
+    let form = CauseRows {
+        after,
+        upto,
+        limit: request.limit,
+    };
+    list_request(alloc, request, &form, texts, out, err)
 }

@@ -1,23 +1,18 @@
 //! What a request for what some state, or every one, switches on asks.
 
-ghost use Rattle.std.specs.Prelude.{◌≡◌, IfErr, IfOk, None, ◌⊎◌};
+ghost use Rattle.std.specs.Prelude.{◌≡◌, IfErr, IfOk, None};
 ghost use Rattle.causes_query.specs.Refusal.{reason, refusal};
 ghost use Rattle.scan_cycle.specs.Standing.{Fits};
-ghost use Rattle.cli_lists.specs.Query.{AsksFor, stored_question};
-ghost use Rattle.cli_lists.specs.Lists.{IsStayingBy, claimed, counted, HasNamesFault, IsAskedOfAll};
-ghost use Rattle.cli_inputs.specs.Setting.{HasSettingFault, given_by};
+ghost use Rattle.cli_lists.specs.Query.{AsksFor, at_stored, question_of};
+ghost use Rattle.cli_lists.specs.Lists.{IsStayingBy, claimed, counted};
 
 use crate::asking::ListQuery;
-use causes_any_state::{
-    Before, Claim, PossibleCauses, PossibleQuery, States, Staying, staying_from,
-};
+use causes_any_state::{Before, Claim, PossibleCauses, PossibleQuery, States, staying_in_runs};
 use causes_query::CauseFault;
 use causes_query::refusal::refusal;
 use cli_arguments::PossibleRequest;
-use cli_inputs::{Setting, Texts, ToolFault, asked_variables, read_setting};
 use diagram_program::Program;
-use invariant_pairs::PAIR_SCANS;
-use invariant_values::SCANS;
+use invariant_sets::{PAIR_SCANS, SCANS, Staying};
 use scan_cycle::{Memory, State};
 use std::alloc::Global;
 
@@ -68,7 +63,7 @@ fn staying_of(
     if !reachable {
         return Ok(None);
     }
-    let staying = staying_from(alloc, program, state, SCANS, PAIR_SCANS)?;
+    let staying = staying_in_runs(alloc, program, state, SCANS, PAIR_SCANS)?;
     Ok(Some(staying))
 }
 
@@ -79,9 +74,9 @@ pub(crate) fn causes_of<'a>(
     asked: &'a ListQuery,
 ) -> Result<PossibleCauses<'a>, CauseFault>
     requires fits { Fits asked.now.program asked.now.state }
-    ensures cursor { IfOk result (λ c. AsksFor request.now (stored_question asked.now) c) }
-    ensures accepted { IfOk result (λ _. refusal (stored_question asked.now) None ≡ None) }
-    ensures refused { IfErr result (λ e. refusal (stored_question asked.now) None ≡ reason e) }
+    ensures cursor { IfOk result (λ c. AsksFor request.now (at_stored (question_of asked.now)) c) }
+    ensures accepted { IfOk result (λ _. refusal (at_stored (question_of asked.now)) None ≡ None) }
+    ensures refused { IfErr result (λ e. refusal (at_stored (question_of asked.now)) None ≡ reason e) }
 {
     let (program, state) = (&asked.program, &asked.state);
     let (coil, inputs) = (asked.coil, &asked.inputs);
@@ -101,40 +96,4 @@ pub(crate) fn causes_of<'a>(
         looks: looks_of(request.looks),
     };
     PossibleCauses::new(alloc, program, state, query)
-}
-
-/// Reads the program text and the names.
-pub(crate) fn read_asked(
-    alloc: Global,
-    request: &PossibleRequest,
-    texts: &Texts,
-) -> Result<ListQuery, ToolFault>
-    ensures fits { IfOk result (λ a. Fits a.program a.state) }
-    ensures asked { IfOk result (λ a. IsAskedOfAll (given_by texts.now) request.now (stored_question a)) }
-    ensures fault { IfErr result (λ f. HasSettingFault (given_by texts.now) f ⊎ HasNamesFault (given_by texts.now) request.now f) }
-{
-    let Setting { program, state } = match read_setting(alloc, texts) {
-        Ok(setting) => setting,
-        Err(fault) => return Err(fault),
-    };
-    let named = asked_variables(
-        alloc,
-        program.decls(),
-        request.coil.as_str(),
-        request.all_inputs,
-        &request.inputs,
-    );
-    match named {
-        Ok(named) => {
-            let moment = state.moment();
-            Ok(ListQuery {
-                program,
-                state,
-                moment,
-                coil: named.coil,
-                inputs: named.inputs,
-            })
-        }
-        Err(fault) => Err(fault),
-    }
 }

@@ -8,11 +8,13 @@ ghost use Rattle.cli_lists.specs.Lists.{BreaksRelevant, CountsRelevant, HasCoilF
 ghost use Rattle.cli_inputs.specs.Reports.{Refuses, logs};
 ghost use Rattle.cli_inputs.specs.Setting.{given_by};
 
-use crate::asking::ListQuery;
-use crate::{grouping, listing};
+use crate::asking::{ListQuery, read_question};
+use crate::ending::list_asked;
+use crate::grouping::GroupRows;
+use crate::listing::CauseRows;
 use causes_one_scan::relevant_inputs;
 use cli_arguments::{Grouping, ListRequest};
-use cli_inputs::{Setting, Texts, ToolFault, asked_variables, moment, read_setting, report};
+use cli_inputs::{Texts, ToolFault, report};
 use io_text::Sink;
 use std::alloc::Global;
 
@@ -22,23 +24,23 @@ fn read_decided(alloc: Global, request: &ListRequest, texts: &Texts) -> Result<L
     ensures decided { IfOk result (λ a. IsDecided (given_by texts.now) request.now (question_of a)) }
     ensures fault { IfErr result (HasCoilFault (given_by texts.now) request.now) }
 {
-    let Setting { program, state } = match read_setting(alloc, texts) {
-        Ok(setting) => setting,
+    let coil = request.coil.as_str();
+    let mut asked = match read_question(alloc, texts, request.moment, coil, false, &[]) {
+        Ok(asked) => asked,
         Err(fault) => return Err(fault),
     };
-    let coil = match asked_variables(alloc, program.decls(), request.coil.as_str(), false, &[]) {
-        Ok(named) => named.coil,
-        Err(fault) => return Err(fault),
-    };
-    let moment = moment(request.moment, state.moment());
-    match relevant_inputs(alloc, &program, &state, moment, coil) {
-        Ok(inputs) => Ok(ListQuery {
-            program,
-            state,
-            moment,
-            coil,
-            inputs,
-        }),
+    let inputs = relevant_inputs(
+        alloc,
+        &asked.program,
+        &asked.state,
+        asked.moment,
+        asked.coil,
+    );
+    match inputs {
+        Ok(inputs) => {
+            asked.inputs = inputs;
+            Ok(asked)
+        }
         Err(fault) => Err(ToolFault::Cause(fault)),
     }
 }
@@ -60,12 +62,20 @@ pub fn list_relevant<O: Sink, E: Sink>(
         → Refuses (given_by texts.now) (HasRelevantFault (given_by texts.now) request.now (after_for after grouping)) (logs (O.log out.old) save (E.log err.old)) (logs (O.log out.new) save (E.log err.new))
         ⊎ BreaksRelevant (given_by texts.now) request.now after grouping (logs (O.log out.old) save (E.log err.old)) (logs (O.log out.new) save (E.log err.new)) }
 {
-    let mut asked = match read_decided(alloc, request, texts) {
+    let asked = match read_decided(alloc, request, texts) {
         Ok(asked) => asked,
         Err(fault) => return report(texts, &fault, err),
     };
+    let (quiet, limit) = (request.quiet, request.limit);
     match grouping {
-        Some(how) => grouping::list_asked(alloc, request, how, &mut asked, texts, out, err),
-        None => listing::list_asked(alloc, request, after, &asked, texts, out, err),
+        Some(how) => {
+            let form = GroupRows { how, limit };
+            list_asked(alloc, &form, asked, quiet, texts, out, err)
+        }
+        None => {
+            let upto = None;
+            let form = CauseRows { after, upto, limit };
+            list_asked(alloc, &form, asked, quiet, texts, out, err)
+        }
     }
 }

@@ -1,5 +1,5 @@
 -- How a request ends: all is written, or a fault stops it.
-use Rattle.std.specs.Prelude.{◌≡◌, ◌⊎◌, Bool, None, Some, is_some}
+use Rattle.std.specs.Prelude.{◌≡◌, ◌⊎◌, Bool, None, is_some}
 use Rattle.io_text.specs.Log.{PutsAll, PutsPrefix}
 use Rattle.text_cross_reference.specs.Uses.{uses_text}
 use Rattle.cli_inputs.specs.declared.fault.ToolFault.{ToolFault}
@@ -11,7 +11,7 @@ use Rattle.cli_inputs.specs.Setting.{Given, HasProgramFault, HasSettingFault}
 use Rattle.cli_inputs.specs.Reports.{IsReported, Logs, Refuses}
 use Rattle.clp_project.specs.declared.reading.ReadingOptions.{ReadingOptions}
 use Rattle.cli_import.specs.Carrying.{BreaksCarrying, Carries}
-use Rattle.cli_lists.specs.Lists.{BreaksGroups, BreaksHeldBy, BreaksList, BreaksNever, BreaksPart, BreaksPossibleBy, BreaksProgress, BreaksRelevant, CountsGroups, CountsHeldBy, CountsList, CountsNever, CountsPart, CountsPossibleBy, CountsProgress, CountsRelevant, HasHeldFaultBy, HasListFault, HasNeverFault, HasPartFault, HasPossibleFaultBy, HasProgressFault, HasRelevantFault, after_for, scans_of}
+use Rattle.cli_lists.specs.Lists.{BreaksGroups, BreaksHeldBy, BreaksList, BreaksNever, BreaksPossible, BreaksProgress, BreaksRelevant, CountsGroups, CountsHeldBy, CountsList, CountsNever, CountsPossible, CountsProgress, CountsRelevant, HasHeldFaultBy, HasListFault, HasNeverFault, HasPossibleFault, HasRelevantFault, after_for, scans_of}
 use Rattle.cli_views.specs.Views.{BreaksFilm, BreaksTrace, BreaksWatch, BreaksWaves, Checks, HasFilmFault, HasShowFault, HasWatchFault, IsFilmed, IsTraced, IsWatched, IsWaved, Prints, Shows}
 
 -- how the project of an import is read
@@ -21,12 +21,11 @@ reading_of opened control_on = record { opened = opened; control_on = control_on
 -- Status 0. Only a simulation writes on `save`, and only a list on `err`.
 abbrev pub IsDone : Request → Given → Logs → Logs → Type 0
 IsDone (Check file warns) g old new = Checks warns g (PutsAll old.out new.out) × (new.save ≡ old.save) × (new.err ≡ old.err)
-IsDone (Causes list after None) g old new = CountsList g list after old.out new.out (PutsAll old.err new.err) × (new.save ≡ old.save)
-IsDone (Causes list after (Some last)) g old new = CountsPart g list after last old.out new.out (PutsAll old.err new.err) × (new.save ≡ old.save)
+IsDone (Causes list after upto) g old new = CountsList g list after upto old.out new.out (PutsAll old.err new.err) × (new.save ≡ old.save)
 IsDone (request.Progress list after upto) g old new = CountsProgress g list after upto old new × (new.save ≡ old.save)
 IsDone (Held list scans every grouped) g old new = CountsHeldBy grouped g list (scans_of scans every) old.out new.out (PutsAll old.err new.err) × (new.save ≡ old.save)
 IsDone (request.Never r) g old new = CountsNever r.excluded g r old.out new.out (PutsAll old.err new.err) × (new.save ≡ old.save)
-IsDone (request.Possible r) g old new = CountsPossibleBy r.grouped g r old.out new.out (PutsAll old.err new.err) × (new.save ≡ old.save)
+IsDone (request.Possible r) g old new = CountsPossible g r old.out new.out (PutsAll old.err new.err) × (new.save ≡ old.save)
 IsDone (Groups list grouping) g old new = CountsGroups g list grouping old.out new.out (PutsAll old.err new.err) × (new.save ≡ old.save)
 IsDone (request.Relevant list after grouping) g old new = CountsRelevant g list after grouping old.out new.out (PutsAll old.err new.err) × (new.save ≡ old.save)
 IsDone (Show r) g old new = Shows g r (PutsAll old.out new.out) × (new.save ≡ old.save) × (new.err ≡ old.err)
@@ -40,13 +39,12 @@ IsDone (Import opened control_on file hal) g old new = Carries (reading_of opene
 -- the faults that the texts and arguments of a request can have
 abbrev pub HasFault : Request → Given → ToolFault → Type 0
 HasFault (Check file warns) g = HasProgramFault g
-HasFault (Causes list after None) g = HasListFault g list after
-HasFault (Causes list after (Some last)) g = HasPartFault g list after last
-HasFault (request.Progress list after upto) g = HasProgressFault g list after upto
+HasFault (Causes list after upto) g = HasListFault g list after upto
+HasFault (request.Progress list after upto) g = HasListFault g list after upto
 HasFault (Held list scans every grouped) g = HasHeldFaultBy grouped g list (scans_of scans every)
 HasFault (request.Never r) g = HasNeverFault g
-HasFault (request.Possible r) g = HasPossibleFaultBy r.grouped g r
-HasFault (Groups list grouping) g = HasListFault g list None
+HasFault (request.Possible r) g = HasPossibleFault g r
+HasFault (Groups list grouping) g = HasListFault g list None None
 HasFault (request.Relevant list after grouping) g = HasRelevantFault g list (after_for after grouping)
 HasFault (Show r) g = HasShowFault g r
 HasFault (request.Film r) g = HasFilmFault g r
@@ -60,12 +58,11 @@ HasFault (Import opened control_on file hal) g = λ f. ⊥
 abbrev pub Breaks : Request → Given → Logs → Logs → Type 0
 Breaks (Check file warns) g old new =
     Checks warns g (PutsPrefix old.out new.out) × (new.save ≡ old.save) × IsReported g old.err new.err fault.Write
-Breaks (Causes list after None) g old new = BreaksList g list after old new × (new.save ≡ old.save)
-Breaks (Causes list after (Some last)) g old new = BreaksPart g list after last old new × (new.save ≡ old.save)
+Breaks (Causes list after upto) g old new = BreaksList g list after upto old new × (new.save ≡ old.save)
 Breaks (request.Progress list after upto) g old new = BreaksProgress g list after upto old new × (new.save ≡ old.save)
 Breaks (Held list scans every grouped) g old new = BreaksHeldBy grouped g list (scans_of scans every) old new × (new.save ≡ old.save)
 Breaks (request.Never r) g old new = BreaksNever r.excluded g r old new × (new.save ≡ old.save)
-Breaks (request.Possible r) g old new = BreaksPossibleBy r.grouped g r old new × (new.save ≡ old.save)
+Breaks (request.Possible r) g old new = BreaksPossible g r old new × (new.save ≡ old.save)
 Breaks (Groups list grouping) g old new = BreaksGroups g list grouping old new × (new.save ≡ old.save)
 Breaks (request.Relevant list after grouping) g old new = BreaksRelevant g list after grouping old new × (new.save ≡ old.save)
 Breaks (Show r) g old new = Shows g r (PutsPrefix old.out new.out) × (new.save ≡ old.save) × IsReported g old.err new.err fault.Write

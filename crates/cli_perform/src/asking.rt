@@ -1,4 +1,4 @@
-//! The coils of which a request is made, and what is refused whichever coil it is made of.
+//! The coils that a request for each coil is made for, and what is refused whichever coil it is.
 
 ghost use Rattle.std.specs.Prelude.{◌≡◌, IfOk, map, string_bytes};
 ghost use Rattle.causes_query.specs.Causes.{question};
@@ -17,7 +17,7 @@ use scan_held::{Scans, are_no_scans};
 use search_groups::BITS_LIMIT;
 use std::alloc::Global;
 
-/// Reads the texts, and returns the names of the coils of which the request is to be made.
+/// Reads the texts, and returns the names of the coils that the request is to be made for.
 ///
 /// # Errors
 ///
@@ -45,7 +45,7 @@ pub(crate) fn read_coils(
     }
 }
 
-/// Refuses a request of this coil for what has nothing to do with the coil.
+/// Refuses a request, asked of one coil, for a reason that holds of every coil.
 fn check_for(
     alloc: Global,
     request: &Request,
@@ -87,7 +87,7 @@ fn check_for(
     }
 }
 
-/// The first rule that is broken by what is asked at this moment.
+/// The first rule that a question about a coil breaks at this moment.
 fn refused(
     setting: &Setting,
     now: u64,
@@ -106,6 +106,36 @@ fn refused(
     )
 }
 
+/// The coil and the inputs of a list.
+fn named_in(
+    alloc: Global,
+    list: &ListRequest,
+    setting: &Setting,
+    coil: &String,
+) -> Result<CauseVariables, ToolFault> {
+    asked_variables(
+        alloc,
+        setting.program.decls(),
+        coil.as_str(),
+        list.all_inputs,
+        &list.inputs,
+    )
+}
+
+/// Refuses what breaks a rule at this moment.
+fn check_rules(
+    setting: &Setting,
+    now: u64,
+    named: &CauseVariables,
+    after: Option<u64>,
+) -> Result<(), ToolFault> {
+    match refused(setting, now, named, after) {
+        Some(fault) => Err(ToolFault::Cause(fault)),
+        None => Ok(()),
+    }
+}
+
+/// Refuses a list of one scan that can't be made of this coil, before the first list is written.
 fn check_list(
     alloc: Global,
     list: &ListRequest,
@@ -113,23 +143,12 @@ fn check_list(
     setting: &Setting,
     coil: &String,
 ) -> Result<(), ToolFault> {
-    let named = match asked_variables(
-        alloc,
-        setting.program.decls(),
-        coil.as_str(),
-        list.all_inputs,
-        &list.inputs,
-    ) {
-        Ok(named) => named,
-        Err(fault) => return Err(fault),
-    };
+    let named = named_in(alloc, list, setting, coil)?;
     let now = moment(list.moment, setting.state.moment());
-    match refused(setting, now, &named, after) {
-        Some(fault) => Err(ToolFault::Cause(fault)),
-        None => Ok(()),
-    }
+    check_rules(setting, now, &named, after)
 }
 
+/// Refuses a list over several scans that can't be made of this coil.
 fn check_held(
     alloc: Global,
     list: &ListRequest,
@@ -138,25 +157,16 @@ fn check_held(
     setting: &Setting,
     coil: &String,
 ) -> Result<(), ToolFault> {
-    let named = match asked_variables(
-        alloc,
-        setting.program.decls(),
-        coil.as_str(),
-        list.all_inputs,
-        &list.inputs,
-    ) {
-        Ok(named) => named,
-        Err(fault) => return Err(fault),
-    };
+    let named = named_in(alloc, list, setting, coil)?;
     if grouped && is_too_wide(&named) {
         return Err(ToolFault::Cause(CauseFault::TooManyFree));
     }
     let now = moment(list.moment, setting.state.moment());
-    match refused(setting, now, &named, None) {
-        Some(fault) => Err(ToolFault::Cause(fault)),
-        None if are_no_scans(now, scans) => Err(ToolFault::NoScans),
-        None => Ok(()),
+    check_rules(setting, now, &named, None)?;
+    if are_no_scans(now, scans) {
+        return Err(ToolFault::NoScans);
     }
+    Ok(())
 }
 
 /// Whether there are too many inputs for a list that is made from a table of all numbers.
@@ -164,45 +174,34 @@ fn is_too_wide(named: &CauseVariables) -> bool {
     named.inputs.len() > BITS_LIMIT as usize
 }
 
-/// Which inputs matter depends on the coil, and so what is refused of them.
+/// Refuses a list over the inputs that matter for its moment; what would be refused of these inputs depends on the coil.
 fn check_relevant(
     alloc: Global,
     list: &ListRequest,
     setting: &Setting,
     coil: &String,
 ) -> Result<(), ToolFault> {
-    let named = match asked_variables(alloc, setting.program.decls(), coil.as_str(), false, &[]) {
-        Ok(named) => named,
-        Err(fault) => return Err(fault),
-    };
+    let named = asked_variables(alloc, setting.program.decls(), coil.as_str(), false, &[])?;
     let now = moment(list.moment, setting.state.moment());
-    match refused(setting, now, &named, None) {
-        Some(fault) => Err(ToolFault::Cause(fault)),
-        None => Ok(()),
-    }
+    check_rules(setting, now, &named, None)
 }
 
+/// Refuses a list over any state that can't be made of this coil.
 fn check_possible(
     alloc: Global,
     possible: &PossibleRequest,
     setting: &Setting,
     coil: &String,
 ) -> Result<(), ToolFault> {
-    let named = match asked_variables(
+    let named = asked_variables(
         alloc,
         setting.program.decls(),
         coil.as_str(),
         possible.all_inputs,
         &possible.inputs,
-    ) {
-        Ok(named) => named,
-        Err(fault) => return Err(fault),
-    };
+    )?;
     if possible.grouped && is_too_wide(&named) {
         return Err(ToolFault::Cause(CauseFault::TooManyFree));
     }
-    match refused(setting, setting.state.moment(), &named, None) {
-        Some(fault) => Err(ToolFault::Cause(fault)),
-        None => Ok(()),
-    }
+    check_rules(setting, setting.state.moment(), &named, None)
 }

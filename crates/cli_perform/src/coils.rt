@@ -7,7 +7,7 @@ use diagram_declarations::Name;
 use diagram_program::Program;
 use std::alloc::{AllocError, Global};
 
-/// A name as text.
+/// The name of a variable as text, as a request has it.
 fn text_of(alloc: Global, name: &Name) -> Result<String, AllocError>
     ensures { IfOk result (λ text. string_bytes text ≡ name.now) }
 {

@@ -28,7 +28,7 @@ pub struct Readers<R: Source> {
     pub hal: Option<R>,
 }
 
-/// The largest text of a kind, in bytes.
+/// How many bytes a text of this kind may have.
 fn limit(kind: TextKind) -> usize
     ensures { result ≡ largest kind }
 {
@@ -38,7 +38,7 @@ fn limit(kind: TextKind) -> usize
     }
 }
 
-/// Reads a text of a kind, within its limit.
+/// Reads a text of this kind, or says why it can't be read.
 fn read_one<R: Source>(alloc: Global, kind: TextKind, reader: &mut R) -> Result<Vec<u8>, ToolFault>
     ensures whole { IfOk result (λ text. IsWhole kind (R.log reader.old) text.items) }
     ensures fault { IfErr result (λ e. (f : ReadFault) × (e ≡ ToolFault.Read kind f) × IsUnread kind (R.log reader.old) (R.log reader.new) f) }

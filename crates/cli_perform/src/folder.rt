@@ -21,6 +21,7 @@ struct CoilFile {
 }
 
 impl Write for CoilFile {
+    /// Writes to the file; if it couldn't be made, the error of that is the error of each write.
     fn write(&mut self, bytes: &[u8]) -> io::Result<usize> {
         match &mut self.file {
             Ok(file) => file.write(bytes),
@@ -28,6 +29,7 @@ impl Write for CoilFile {
         }
     }
 
+    /// Flushes the file; if it couldn't be made, the error of that is the error of each call.
     fn flush(&mut self) -> io::Result<()> {
         match &mut self.file {
             Ok(file) => file.flush(),
@@ -36,7 +38,7 @@ impl Write for CoilFile {
     }
 }
 
-/// The form in which a list is written.
+/// The form in which a list is written, which gives its file its ending.
 fn form_of(request: &Request) -> GroupFormat {
     match request {
         Request::Groups { grouping, .. }
@@ -70,7 +72,7 @@ fn ending(form: GroupFormat) -> &'static str {
     }
 }
 
-/// The path of the file of a coil.
+/// The path of a coil's file in the folder: the name of the coil with an ending.
 fn path_of(alloc: Global, folder: &str, coil: &str, end: &str) -> Result<String, AllocError> {
     let mut path = String::from_str(alloc, folder)?;
     path.push_str("/")?;
@@ -134,7 +136,7 @@ struct Lists<'a> {
 }
 
 impl Lists<'_> {
-    /// The path of the file of a coil.
+    /// The path of the file for the list of a coil, in the folder of this request.
     fn path(&self, coil: &str, form: GroupFormat) -> Result<String, AllocError> {
         let mut path = String::from_str(self.alloc, self.folder)?;
         path.push_str("/")?;
@@ -143,13 +145,13 @@ impl Lists<'_> {
         Ok(path)
     }
 
-    /// Whether this is the file of a path, where links are followed.
+    /// Whether a path is that of this file, once links are followed.
     fn is_file(&self, file: &str, path: &str) -> Result<bool, AllocError> {
         let file = followed(self.rt, self.alloc, file)?;
         Ok(file.as_str() == path)
     }
 
-    /// Whether the list of a coil would be written over the program or the state.
+    /// Whether the list of a coil would replace the file of the program or of the state.
     fn is_taken(&self, request: &Request, coil: &str) -> Result<bool, AllocError> {
         let path = self.path(coil, form_of(request))?;
         let path = followed(self.rt, self.alloc, path.as_str())?;
@@ -162,7 +164,7 @@ impl Lists<'_> {
         }
     }
 
-    /// Whether a list would be written over the program or the state.
+    /// Whether one of the lists would replace the file of the program or of the state.
     fn are_taken(&self, request: &Request, coils: &[String]) -> Result<bool, AllocError> {
         for coil in coils {
             if self.is_taken(request, coil.as_str())? {
@@ -172,7 +174,7 @@ impl Lists<'_> {
         Ok(false)
     }
 
-    /// Makes the folder where it isn't there.
+    /// Makes the folder for the lists, unless it is there.
     fn make_folder(&self) -> io::Result<()> {
         match fs::metadata(self.rt, self.folder) {
             Ok(metadata) if metadata.is_dir() => Ok(()),
@@ -180,14 +182,14 @@ impl Lists<'_> {
         }
     }
 
-    /// Says what is wrong. Returns the status 1.
+    /// Writes the line of a fault. Returns the status 1.
     fn refuse(&self, fault: &ToolFault) -> u8
         ensures { result ≤ 1 }
     {
         report(self.texts, fault, &mut CountedWriter::new(self.rt.stderr()))
     }
 
-    /// Makes the list of a coil. Returns the status.
+    /// Writes the list of one coil into its file. Returns the status.
     fn list(&self, request: &mut Request, coil: String) -> u8
         ensures { result ≤ 1 }
     {
@@ -203,7 +205,7 @@ impl Lists<'_> {
         )
     }
 
-    /// Makes the list of each coil, one after the other. Returns the largest status.
+    /// Writes the list of each coil into its file, one after the other. Returns the largest status.
     fn list_all(&self, request: &mut Request, coils: Vec<String>) -> u8
         ensures { result ≤ 1 }
     {
@@ -216,7 +218,7 @@ impl Lists<'_> {
         if are_made { 0 } else { 1 }
     }
 
-    /// Makes the lists of these coils, where no list is written over what is read. Returns the status.
+    /// Writes the lists of these coils, unless one would replace a file that is read. Returns the status.
     fn make(&self, request: &mut Request, coils: Vec<String>) -> u8
         ensures { result ≤ 2 }
     {
@@ -235,7 +237,7 @@ impl Lists<'_> {
     }
 }
 
-/// Reads the texts of a request.
+/// Reads the texts of a request once, for the lists of all coils.
 fn texts_of(rt: &HostRuntime, alloc: Global, line: &CommandLine) -> Result<Texts, ToolFault> {
     let mut readers = readers_of(rt, &line.request);
     read_texts(alloc, line, &mut readers)

@@ -18,6 +18,7 @@ pub(crate) struct NamedFile<'a> {
 }
 
 impl Read for NamedFile<'_> {
+    /// Reads from the file, which the first call opens; `-` is the standard input.
     fn read(&mut self, bytes: &mut [u8]) -> io::Result<usize> {
         if let Some(file) = &mut self.file {
             return file.read(bytes);
@@ -34,6 +35,7 @@ impl Read for NamedFile<'_> {
     }
 }
 
+/// A reader that opens the file of a path when it is first asked.
 fn reading<'a>(rt: &'a HostRuntime, path: &'a str) -> CountedReader<NamedFile<'a>> {
     CountedReader::new(NamedFile {
         rt,
@@ -53,7 +55,7 @@ fn reading_named<'a>(
     }
 }
 
-/// The reader of a program text alone.
+/// The readers of a request that reads a program text alone.
 fn alone<'a>(rt: &'a HostRuntime, program: &'a str) -> Readers<CountedReader<NamedFile<'a>>> {
     Readers {
         program: reading(rt, program),
@@ -63,47 +65,27 @@ fn alone<'a>(rt: &'a HostRuntime, program: &'a str) -> Readers<CountedReader<Nam
     }
 }
 
-/// The readers of a program text, and of a state where one is named.
+/// The readers of a request that reads a program text, and a state if one is named.
 fn from_state<'a>(
     rt: &'a HostRuntime,
     program: &'a str,
     state: &'a Option<String>,
 ) -> Readers<CountedReader<NamedFile<'a>>> {
-    Readers {
-        program: reading(rt, program),
-        state: reading_named(rt, state),
-        stimulus: None,
-        hal: None,
-    }
+    let mut readers = alone(rt, program);
+    readers.state = reading_named(rt, state);
+    readers
 }
 
-/// The readers of what is simulated: a program text, a state where one is named, and a stimulus.
+/// The readers of a simulation: a program text, a state if one is named, and a stimulus.
 fn simulated<'a>(
     rt: &'a HostRuntime,
     program: &'a str,
     state: &'a Option<String>,
     stimulus: &'a str,
 ) -> Readers<CountedReader<NamedFile<'a>>> {
-    Readers {
-        program: reading(rt, program),
-        state: reading_named(rt, state),
-        stimulus: Some(reading(rt, stimulus)),
-        hal: None,
-    }
-}
-
-/// The readers of a project, and of a HAL file where one is named.
-fn imported<'a>(
-    rt: &'a HostRuntime,
-    project: &'a str,
-    hal: &'a Option<String>,
-) -> Readers<CountedReader<NamedFile<'a>>> {
-    Readers {
-        program: reading(rt, project),
-        state: None,
-        stimulus: None,
-        hal: reading_named(rt, hal),
-    }
+    let mut readers = from_state(rt, program, state);
+    readers.stimulus = Some(reading(rt, stimulus));
+    readers
 }
 
 /// The readers of the files that a request names, none of which was opened yet.
@@ -113,7 +95,11 @@ pub(crate) fn readers_of<'a>(
 ) -> Readers<CountedReader<NamedFile<'a>>> {
     match request {
         Request::Check { file, .. } | Request::Uses { file } => alone(rt, file.as_str()),
-        Request::Import { file, hal, .. } => imported(rt, file.as_str(), hal),
+        Request::Import { file, hal, .. } => {
+            let mut readers = alone(rt, file.as_str());
+            readers.hal = reading_named(rt, hal);
+            readers
+        }
         Request::Causes { list, .. }
         | Request::Progress { list, .. }
         | Request::Held { list, .. }

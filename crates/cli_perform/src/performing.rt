@@ -1,4 +1,4 @@
-//! What is done for a request.
+//! What is done for a request, once its texts were read: one call for each kind.
 
 ghost use Rattle.std.specs.Prelude.{◌≡◌, ◌≤◌, [], option_map, unwrap_or, vec_items};
 ghost use Rattle.cli_inputs.specs.Reports.{logs};
@@ -11,8 +11,7 @@ use cli_arguments::Request;
 use cli_import::carry;
 use cli_inputs::Texts;
 use cli_lists::{
-    list_causes, list_groups, list_held, list_never, list_part, list_possible, list_progress,
-    list_relevant,
+    list_causes, list_groups, list_held, list_never, list_possible, list_progress, list_relevant,
 };
 use cli_views::{About, film, print, show, trace, watch, wave};
 use clp_project::ReadingOptions;
@@ -70,10 +69,9 @@ pub fn perform<O: Sink, S: Sink, E: Sink>(
         Request::Uses { .. } => print(alloc, About::Uses, texts, out, err),
         Request::Never(never) => list_never(alloc, never, texts, out, err),
         Request::Possible(possible) => list_possible(alloc, possible, texts, out, err),
-        Request::Causes { list, after, upto } => match *upto {
-            Some(last) => list_part(alloc, list, *after, last, texts, out, err),
-            None => list_causes(alloc, list, *after, texts, out, err),
-        },
+        Request::Causes { list, after, upto } => {
+            list_causes(alloc, list, *after, *upto, texts, out, err)
+        }
         Request::Progress { list, after, upto } => {
             list_progress(alloc, list, *after, *upto, texts, out, err)
         }

@@ -35,7 +35,7 @@ pub fn run(rt: &HostRuntime, alloc: Global, words: Vec<String>) -> u8
     }
 }
 
-/// A plain list tells how far it is where that is seen: on a terminal to which its rows don't go.
+/// The task of a request: a plain list reports how far it is, if that is seen on a terminal and its rows go elsewhere.
 fn seen_on(rt: &HostRuntime, line: CommandLine) -> CommandLine {
     if rt.stdout().is_terminal() || !rt.stderr().is_terminal() {
         return line;
@@ -195,7 +195,7 @@ fn end_saving(rt: &HostRuntime, saved: &SavedFile<'_>, status: u8) -> u8
     0
 }
 
-/// The file that a state is to be saved to, and the simulation.
+/// The file that a state is saved to, and the simulation that saves it, if a request is one.
 fn saving_of(request: &Request) -> Option<(&str, &SimRequest)> {
     match request {
         Request::Sim(sim) => saving_in(sim),
@@ -216,6 +216,7 @@ fn saving_of(request: &Request) -> Option<(&str, &SimRequest)> {
     }
 }
 
+/// The path that a simulation saves its last state to, where it does.
 fn saving_in(sim: &SimRequest) -> Option<(&str, &SimRequest)> {
     match &sim.save {
         Some(path) => Some((path.as_str(), sim)),
@@ -223,11 +224,12 @@ fn saving_in(sim: &SimRequest) -> Option<(&str, &SimRequest)> {
     }
 }
 
-/// A file that can't be written, where the system has it.
+/// A writer for the state that can't be written to, for requests that save none.
 fn no_file(rt: &HostRuntime) -> io::Result<File> {
     fs::open(rt, "/dev/null")
 }
 
+/// Performs a request on the real files and outputs, a state being saved by the writer `save`.
 fn run_with<W: Write>(
     rt: &HostRuntime,
     alloc: Global,

@@ -5,7 +5,7 @@ ghost use Rattle.cli_perform.specs.CoilNames.{is_quiet, of_coil};
 
 use cli_arguments::Request;
 
-/// Asks of the coil with this name. A request that asks of no coil stays as it is.
+/// Puts the name of a coil into a request for a list. Any other request stays as it is.
 pub fn ask_of(request: &mut Request, coil: String)
     ensures { request.new ≡ of_coil coil request.old }
 {

@@ -4,7 +4,7 @@ use std::alloc::{AllocError, Global};
 use std::fs::{self, File};
 use std::io::{self, Write};
 
-/// What a new file's name has behind that of the file whose place it takes.
+/// What a new file's name has after that of the file whose place it takes.
 const NEW: &str = ".ladder-new";
 
 /// How many links are followed, one after the other, as the system does it.
@@ -51,13 +51,14 @@ pub(crate) fn followed(rt: &HostRuntime, alloc: Global, path: &str) -> Result<St
     Ok(path)
 }
 
+/// The path of a new file next to the one that is saved to; it takes the place of the old one once it is whole.
 fn beside(alloc: Global, path: &str) -> Result<String, AllocError> {
     let mut beside = String::from_str(alloc, path)?;
     beside.push_str(NEW)?;
     Ok(beside)
 }
 
-/// What is written to for a path.
+/// What is written to for a path: a new file beside it, or the pipe or device itself.
 fn target_of(rt: &HostRuntime, alloc: Global, path: &str) -> Result<Target, AllocError> {
     match fs::metadata(rt, path) {
         Ok(metadata) if metadata.is_file() => Ok(Target::Beside(beside(alloc, path)?)),
@@ -68,7 +69,7 @@ fn target_of(rt: &HostRuntime, alloc: Global, path: &str) -> Result<Target, Allo
 }
 
 impl<'a> SavedFile<'a> {
-    /// The file of this path, of which nothing was opened yet.
+    /// The file for this path, before anything of it is opened.
     pub(crate) fn new(
         rt: &'a HostRuntime,
         alloc: Global,
@@ -87,13 +88,13 @@ impl<'a> SavedFile<'a> {
         })
     }
 
-    /// Whether it is the file or the pipe of this path, whose links were followed. A device may be written by several.
+    /// Whether it is the file or pipe of this path, once links are followed. A device may be written by several.
     pub(crate) fn is_same(&self, alloc: Global, path: &str) -> Result<bool, AllocError> {
         let own = followed(self.rt, alloc, self.path.as_str())?;
         Ok(own.as_str() == path && !path.starts_with(DEVICES))
     }
 
-    /// Opens what is written to.
+    /// Opens the file that is written to.
     fn open(&self) -> io::Result<File> {
         match &self.target {
             Target::Beside(beside) => fs::create(self.rt, beside.as_str()),
@@ -111,7 +112,7 @@ impl<'a> SavedFile<'a> {
         fs::rename(self.rt, beside.as_str(), self.path.as_str())
     }
 
-    /// Removes what was written in part.
+    /// Removes the new file, which was written in part.
     pub(crate) fn discard(&self) {
         if let (Some(_), Target::Beside(beside)) = (&self.file, &self.target) {
             let _ = fs::remove_file(self.rt, beside.as_str());
@@ -120,6 +121,7 @@ impl<'a> SavedFile<'a> {
 }
 
 impl Write for SavedFile<'_> {
+    /// Writes to the new file, which the first call makes.
     fn write(&mut self, bytes: &[u8]) -> io::Result<usize> {
         if let Some(file) = &mut self.file {
             return file.write(bytes);
@@ -130,6 +132,7 @@ impl Write for SavedFile<'_> {
         written
     }
 
+    /// Flushes the new file, where it was made.
     fn flush(&mut self) -> io::Result<()> {
         match &mut self.file {
             Some(file) => file.flush(),

@@ -1,11 +1,11 @@
-//! A list that tells how far it is without being asked.
+//! A list that reports how far it is without being asked.
 
 ghost use Rattle.std.specs.Prelude.{◌≡◌};
 ghost use Rattle.cli_perform.specs.Telling.{telling};
 
 use cli_arguments::Request;
 
-/// The request, with lines of how far the list is where it is a plain one.
+/// A request with progress added, if it is for a plain list.
 pub(crate) fn telling(request: Request) -> Request
     ensures { result ≡ telling request }
 {

@@ -13,33 +13,35 @@ returns-in_default-clause-failed g c = λ save status. inl (record {
   reported = c.report.ensures.line;
 })
 
-pub returns-in_default-write_steady-clause-failed : goal.returns-in_default-write_steady-clause-failed
-returns-in_default-write_steady-clause-failed g c = λ save status.
+pub returns-in_default-write_never-clause-failed : goal.returns-in_default-write_never-clause-failed
+returns-in_default-write_never-clause-failed g c = λ save status.
     let made = c.in-Ok.ensures in
     inr (inl ((
       record {
         program = c.args.setting.now.program;
         state = c.args.setting.now.state;
         set = c.requires.set;
-        steady = c.in-Ok.steady;
-        settled = made.is;
+        staying = c.in-Ok.staying;
+        stays = made.stays;
+        told = made.told;
         so = made.so;
-        rows = c.in_default-write_steady.ensures.wrote;
+        rows = c.in_default-write_never.ensures.wrote;
       },
-      c.report-in_default-write_steady.ensures.line,
+      c.report-in_default-write_never.ensures.line,
     )))
 
 pub returns-in_default-put_count-clause-failed : goal.returns-in_default-put_count-clause-failed
 returns-in_default-put_count-clause-failed g c = λ save status.
     let made = c.in-Ok.ensures in
-    let w = c.in-Ok-write_steady in
+    let w = c.in-Ok-write_never in
     inr (inr (record {
       list = record {
         program = c.args.setting.now.program;
         state = c.args.setting.now.state;
         set = c.requires.set;
-        steady = c.in-Ok.steady;
-        settled = made.is;
+        staying = c.in-Ok.staying;
+        stays = made.stays;
+        told = made.told;
         so = made.so;
         rows = w.ensures.wrote;
       };
@@ -49,14 +51,15 @@ returns-in_default-put_count-clause-failed g c = λ save status.
 pub returns-clause-done : goal.returns-clause-done
 returns-clause-done g c = λ status.
     let made = c.in-Ok.ensures in
-    let w = c.in-Ok-write_steady in
+    let w = c.in-Ok-write_never in
     record {
       list = record {
         program = c.args.setting.now.program;
         state = c.args.setting.now.state;
         set = c.requires.set;
-        steady = c.in-Ok.steady;
-        settled = made.is;
+        staying = c.in-Ok.staying;
+        stays = made.stays;
+        told = made.told;
         so = made.so;
         rows = w.ensures.wrote;
       };

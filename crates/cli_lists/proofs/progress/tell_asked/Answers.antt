@@ -1,15 +1,16 @@
-use Rattle.std.proofs.Common.{◌∙◌, refl, inl, inr}
+use Rattle.std.proofs.Common.{◌∙◌, inl, inr, refl}
 use Rattle.cli_inputs.specs.declared.fault.ToolFault.TheVariants as fault
 use Rattle.cli_inputs.specs.Setting.{given_by}
 use Rattle.cli_inputs.proofs.Ends.{all_same, prefix_same}
 use Rattle.cli_lists.specs.Query.{question_of}
-use Rattle.cli_lists.proofs.ProgressEnds.{asked_fault, broke_off, progress_line_is, progress_text_is}
+use Rattle.cli_lists.proofs.Forms.{cause_counts_are, causes_are}
+use Rattle.cli_lists.proofs.ProgressEnds.{broke_off, progress_line_is}
 use Rattle.cli_lists.proofs.progress.tell_asked.Goals as goal
 
 pub returns-in-Err-clause-failed : goal.returns-in-Err-clause-failed
 returns-in-Err-clause-failed g c = λ save status. inl (record {
   reason = fault.Cause c.in-Err.fault;
-  has = asked_fault (given_by c.args.texts.now) c.args.request.now c.args.bounds.after c.args.bounds.upto (question_of c.args.asked.now) (fault.Cause c.in-Err.fault) c.requires.asked c.in-Err.ensures.refused;
+  has = inr (inr (question_of c.args.asked.now, c.requires.asked, c.in-Err.ensures.refused));
   unwritten = refl {a = g.O.Sink.log c.args.out.now};
   unsaved = refl {a = save};
   reported = c.report.ensures.line;
@@ -18,12 +19,13 @@ returns-in-Err-clause-failed g c = λ save status. inl (record {
 pub returns-in-Err-written-clause-failed : goal.returns-in-Err-written-clause-failed
 returns-in-Err-written-clause-failed g c = λ save status.
     let made = c.in-Ok.ensures in
-    inr (broke_off c.args.request.now c.args.bounds.after c.args.bounds.upto (question_of c.args.asked.now) c.in-Ok.cursor made.program made.listed made.rest (given_by c.args.texts.now) c.in-Err-written.fault save
+    inr (broke_off c.args.request.now c.args.rows.after c.args.rows.upto (question_of c.args.asked.now) c.in-Ok.causes made.program made.listed made.rest (given_by c.args.texts.now) c.in-Err-written.fault save
     _ _ _ _ _ c.requires.asked made.accepted c.in-Err-written.ensures.told c.end_at.ensures.rows c.end_at.ensures.lines)
 
 pub returns-in_default-clause-failed : goal.returns-in_default-clause-failed
 returns-in_default-clause-failed g c = λ save status.
     let r = c.args.request.now in
+    let rows = c.args.rows in
     let q = question_of c.args.asked.now in
     let made = c.in-Ok.ensures in
     let w = c.in-Ok-written in
@@ -33,15 +35,16 @@ returns-in_default-clause-failed g c = λ save status.
       accepted = made.accepted;
       written = inr (inr (
         g.E.Sink.log c.write_progress-written.new.err,
-        (all_same _ _ _ _ (progress_text_is r c.args.bounds.after c.args.bounds.upto q c.in-Ok.cursor made.program made.listed made.rest) w.ensures.told.0, w.ensures.told.1),
-        prefix_same _ _ _ _ (progress_line_is r c.args.bounds.after c.args.bounds.upto q c.in-Ok.cursor made.program made.listed made.rest w.summary.rows w.summary.looks made.search made.looks w.ensures.rows (w.ensures.looks ∙ w.ensures.counted))
-            c.in_default.ensures,
+        (all_same _ _ _ _ (causes_are r.limit rows.after rows.upto q c.in-Ok.causes made.program made.listed made.rest) w.ensures.told.0, w.ensures.told.1),
+        prefix_same _ _ _ _ (progress_line_is r rows.after rows.upto q c.in-Ok.causes made.program made.listed made.rest _
+            (cause_counts_are r.limit rows.after rows.upto q c.in-Ok.causes made.program made.listed made.rest w.summary made.search made.looks w.ensures.rows (w.ensures.looks ∙ w.ensures.counted))) c.in_default.ensures,
       ));
     })
 
 pub returns-clause-done : goal.returns-clause-done
 returns-clause-done g c = λ save status.
     let r = c.args.request.now in
+    let rows = c.args.rows in
     let q = question_of c.args.asked.now in
     let made = c.in-Ok.ensures in
     let w = c.in-Ok-written in
@@ -51,8 +54,8 @@ returns-clause-done g c = λ save status.
       accepted = made.accepted;
       written = (
         g.E.Sink.log c.write_progress-written.new.err,
-        (all_same _ _ _ _ (progress_text_is r c.args.bounds.after c.args.bounds.upto q c.in-Ok.cursor made.program made.listed made.rest) w.ensures.told.0, w.ensures.told.1),
-        all_same _ _ _ _ (progress_line_is r c.args.bounds.after c.args.bounds.upto q c.in-Ok.cursor made.program made.listed made.rest w.summary.rows w.summary.looks made.search made.looks w.ensures.rows (w.ensures.looks ∙ w.ensures.counted))
-            c.in-Ok-put_rows.ensures,
+        (all_same _ _ _ _ (causes_are r.limit rows.after rows.upto q c.in-Ok.causes made.program made.listed made.rest) w.ensures.told.0, w.ensures.told.1),
+        all_same _ _ _ _ (progress_line_is r rows.after rows.upto q c.in-Ok.causes made.program made.listed made.rest _
+            (cause_counts_are r.limit rows.after rows.upto q c.in-Ok.causes made.program made.listed made.rest w.summary made.search made.looks w.ensures.rows (w.ensures.looks ∙ w.ensures.counted))) c.in-Ok-put_counts.ensures,
       );
     }

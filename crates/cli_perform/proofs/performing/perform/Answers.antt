@@ -15,19 +15,9 @@ pub returns-in-Uses-clause-failed : goal.returns-in-Uses-clause-failed
 returns-in-Uses-clause-failed g c = λ status.
     rw c.in-Uses.is (with_second refl (c.print-in-Uses.ensures.failed (g.S.Sink.log c.args.save.now) status))
 
-pub returns-in-Some-clause-done : goal.returns-in-Some-clause-done
-returns-in-Some-clause-done g c = λ status. rw (c.in-Causes.is, c.in-Some.is) (c.list_part.ensures.done status, refl)
-
-pub returns-in-Some-clause-failed : goal.returns-in-Some-clause-failed
-returns-in-Some-clause-failed g c = λ status.
-    rw (c.in-Causes.is, c.in-Some.is) (with_third refl (c.list_part.ensures.failed (g.S.Sink.log c.args.save.now) status))
-
-pub returns-in-None-clause-done : goal.returns-in-None-clause-done
-returns-in-None-clause-done g c = λ status. rw (c.in-Causes.is, c.in-None.is) (c.list_causes.ensures.done status, refl)
-
-pub returns-in-None-clause-failed : goal.returns-in-None-clause-failed
-returns-in-None-clause-failed g c = λ status.
-    rw (c.in-Causes.is, c.in-None.is) (with_third refl (c.list_causes.ensures.failed (g.S.Sink.log c.args.save.now) status))
+pub returns-in-Causes-clause-failed : goal.returns-in-Causes-clause-failed
+returns-in-Causes-clause-failed g c = λ status.
+    rw c.in-Causes.is (with_third refl (c.list_causes.ensures.failed (g.S.Sink.log c.args.save.now) status))
 
 pub returns-in-Never-clause-failed : goal.returns-in-Never-clause-failed
 returns-in-Never-clause-failed g c = λ status. rw c.in-Never.is (with_third refl (c.list_never.ensures.failed (g.S.Sink.log c.args.save.now) status))

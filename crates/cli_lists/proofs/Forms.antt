@@ -1,0 +1,136 @@
+-- What a cursor gives and a writer counts is the list of the question in its form.
+use Rattle.std.proofs.Common.{◌≡◌, ◌∙◌, ap, refl, sym, inl, inr, ℕ, List, Option, length}
+use Rattle.std.specs.Prelude.{None, option_map}
+use Rattle.diagram_program.specs.Program.{Drawing}
+use Rattle.causes_query.specs.declared.fault.CauseFault.TheVariants as cause
+use Rattle.causes_query.specs.Causes.{Question, causes_after, is_cause}
+use Rattle.causes_query.specs.Refusal.{refusal}
+use Rattle.causes_one_scan.specs.Cursor.{Cursor, first_number, looks_of, searched}
+use Rattle.causes_one_scan.specs.GroupCursor.{GroupCursor, causes_in, rows_left}
+use Rattle.causes_one_scan.specs.Order.{RefusedInAnyOrder, SiftedIsPermutation, sifted}
+use Rattle.causes_one_scan.specs.Prefixes.{search_of}
+use Rattle.search_tree.specs.Looks.{Search}
+use Rattle.search_groups.specs.Groups.{rows}
+use Rattle.search_groups.specs.Classes.{numbers_in}
+use Rattle.scan_held.specs.HeldRefusal.{held_reason}
+use Rattle.scan_held.specs.Holding.{held_causes}
+use Rattle.scan_held.specs.declared.fault.HeldFault.{HeldFault}
+use Rattle.scan_held.specs.declared.fault.HeldFault.TheVariants as held
+use Rattle.scan_held.specs.declared.scans.Scans.{Scans}
+use Rattle.causes_held.specs.Rows.{HeldCursor}
+use Rattle.causes_held.specs.Cursor.{HeldGroupCursor, held_groups}
+use Rattle.causes_held.specs.GroupRefusal.{held_group_reason}
+use Rattle.causes_held.specs.declared.fault.HeldGroupFault.{HeldGroupFault}
+use Rattle.causes_held.specs.declared.fault.HeldGroupFault.TheVariants as held_group
+use Rattle.text_causes.specs.CauseText.{cause_text, limited}
+use Rattle.text_causes.specs.Parts.{part, part_looks}
+use Rattle.text_causes.specs.TermText.{form_text}
+use Rattle.text_causes.specs.declared.group_text.GroupForm.{GroupForm}
+use Rattle.text_causes.specs.declared.group_text.GroupSummary.{GroupSummary}
+use Rattle.text_causes.specs.declared.summary.Summary.{Summary}
+use Rattle.text_lists.specs.ClassText.{held_group_text}
+use Rattle.text_lists.specs.HeldText.{held_text}
+use Rattle.cli_arguments.specs.declared.request.GroupFormat.{GroupFormat}
+use Rattle.cli_arguments.specs.declared.request.InputOrder.{InputOrder}
+use Rattle.cli_arguments.specs.declared.request.InputOrder.TheVariants as order
+use Rattle.cli_lists.specs.declared.counting.ListCounts.TheVariants as counts
+use Rattle.cli_lists.specs.Lists.{IsFirstFault, cause_counts, causes_text, form_on, group_counts, groups_text, held_fault, held_for, held_group_counts, held_group_fault, held_groups_for, ordered}
+
+summary_is : (s : Summary) (rows looks : ℕ) → s.rows ≡ rows → s.looks ≡ looks → counts.Causes s ≡ counts.Causes (record { rows = rows; looks = looks })
+summary_is s rows looks h l = ap (λ (n : ℕ). counts.Causes (record { rows = n; looks = s.looks })) h ∙ ap (λ (n : ℕ). counts.Causes (record { rows = rows; looks = n })) l
+
+groups_summary_is : (s : GroupSummary) (rows causes : ℕ) → s.rows ≡ rows → s.causes ≡ causes → counts.Groups s ≡ counts.Groups (record { rows = rows; causes = causes })
+groups_summary_is s rows causes h l =
+    ap (λ (n : ℕ). counts.Groups (record { rows = n; causes = s.causes })) h ∙ ap (λ (n : ℕ). counts.Groups (record { rows = rows; causes = n })) l
+
+-- ---- a list of causes
+
+module _ (limit after upto : Option ℕ) (q : Question) (c : Cursor) (of_program : c.program ≡ q.program) (of_listed : c.listed ≡ q.listed)
+    (made : c.rest ≡ causes_after after q) where
+  pub causes_are : cause_text c.program c.listed (limited limit (part upto c.rest)) ≡ causes_text limit after upto q
+  causes_are =
+      ap (λ (d : Drawing). cause_text d c.listed (limited limit (part upto c.rest))) of_program
+      ∙ ap (λ (g : List ℕ). cause_text q.program g (limited limit (part upto c.rest))) of_listed
+      ∙ ap (λ (xs : List ℕ). cause_text q.program q.listed (limited limit (part upto xs))) made
+
+  pub cause_counts_are : (s : Summary) → searched c ≡ search_of q (first_number after) → looks_of c ≡ 0 → s.rows ≡ length (limited limit (part upto c.rest))
+      → s.looks ≡ part_looks upto (searched c) (looks_of c) limit (part upto c.rest) → counts.Causes s ≡ cause_counts limit after upto q
+  cause_counts_are s same none h l = summary_is s _ _ (h ∙ ap (λ (xs : List ℕ). length (limited limit (part upto xs))) made)
+      (l ∙ ap (λ (t : Search). part_looks upto t (looks_of c) limit (part upto c.rest)) same
+      ∙ ap (λ (n : ℕ). part_looks upto (search_of q (first_number after)) n limit (part upto c.rest)) none
+      ∙ ap (λ (xs : List ℕ). part_looks upto (search_of q (first_number after)) 0 limit (part upto xs)) made)
+
+-- ---- over several scans
+
+module _ (limit : Option ℕ) (s : Scans) (q : Question) (c : HeldCursor) (made : c.rest ≡ held_causes q s) where
+  pub held_is : c.program ≡ q.program → c.listed ≡ q.listed → held_text c.program c.listed (limited limit c.rest) ≡ held_text q.program q.listed (held_for limit s q)
+  held_is of_program of_listed =
+      ap (λ (d : Drawing). held_text d c.listed (limited limit c.rest)) of_program
+      ∙ ap (λ (g : List ℕ). held_text q.program g (limited limit c.rest)) of_listed
+      ∙ ap (λ xs. held_text q.program q.listed (limited limit xs)) made
+
+  pub held_counts_are : (n : ℕ) → n ≡ length (limited limit c.rest) → counts.Rows n ≡ counts.Rows (length (held_for limit s q))
+  held_counts_are n h = ap (λ (m : ℕ). counts.Rows m) (h ∙ ap (λ xs. length (limited limit xs)) made)
+
+module _ (limit : Option ℕ) (s : Scans) (q : Question) (c : HeldGroupCursor) (of_listed : c.listed ≡ q.listed) (made : c.rest ≡ held_groups q s) where
+  pub held_groups_are : c.program ≡ q.program → held_group_text c.program c.listed (limited limit c.rest) ≡ held_group_text q.program q.listed (held_groups_for limit s q)
+  held_groups_are of_program =
+      ap (λ (d : Drawing). held_group_text d c.listed (limited limit c.rest)) of_program
+      ∙ ap (λ (g : List ℕ). held_group_text q.program g (limited limit c.rest)) of_listed
+      ∙ ap (λ rs. held_group_text q.program q.listed (limited limit rs)) made
+
+  pub held_group_counts_are : (n : GroupSummary) → n.rows ≡ length (limited limit c.rest) → n.causes ≡ numbers_in (length c.listed) (limited limit c.rest)
+      → counts.Groups n ≡ held_group_counts limit s q
+  held_group_counts_are n h l = groups_summary_is n _ _ (h ∙ ap (λ rs. length (limited limit rs)) made)
+      (l ∙ ap (λ (xs : List ℕ). numbers_in (length xs) (limited limit c.rest)) of_listed ∙ ap (λ rs. numbers_in (length q.listed) (limited limit rs)) made)
+
+-- The fault that is told is the first rule that is broken.
+pub held_first : (first : Option HeldFault) (e : HeldFault) → first ≡ held_reason e → IsFirstFault (option_map held_fault first) (held_fault e)
+held_first first held.NoScans h = inr (ap (option_map held_fault) h)
+held_first first (held.Question cause.MomentBack) h = inr (ap (option_map held_fault) h)
+held_first first (held.Question cause.NotACoil) h = inr (ap (option_map held_fault) h)
+held_first first (held.Question cause.TooManyFree) h = inr (ap (option_map held_fault) h)
+held_first first (held.Question cause.NotAnInput) h = inr (ap (option_map held_fault) h)
+held_first first (held.Question cause.RepeatedInput) h = inr (ap (option_map held_fault) h)
+held_first first (held.Question cause.AfterOutOfRange) h = inr (ap (option_map held_fault) h)
+held_first first (held.Question cause.Memory) h = inl refl
+
+pub held_group_first : (first : Option HeldGroupFault) (e : HeldGroupFault) → first ≡ held_group_reason e
+    → IsFirstFault (option_map held_group_fault first) (held_group_fault e)
+held_group_first first held_group.TooManyInputs h = inr (ap (option_map held_group_fault) h)
+held_group_first first (held_group.Held held.NoScans) h = inr (ap (option_map held_group_fault) h)
+held_group_first first (held_group.Held (held.Question cause.MomentBack)) h = inr (ap (option_map held_group_fault) h)
+held_group_first first (held_group.Held (held.Question cause.NotACoil)) h = inr (ap (option_map held_group_fault) h)
+held_group_first first (held_group.Held (held.Question cause.TooManyFree)) h = inr (ap (option_map held_group_fault) h)
+held_group_first first (held_group.Held (held.Question cause.NotAnInput)) h = inr (ap (option_map held_group_fault) h)
+held_group_first first (held_group.Held (held.Question cause.RepeatedInput)) h = inr (ap (option_map held_group_fault) h)
+held_group_first first (held_group.Held (held.Question cause.AfterOutOfRange)) h = inr (ap (option_map held_group_fault) h)
+held_group_first first (held_group.Held (held.Question cause.Memory)) h = inl refl
+
+-- ---- in groups
+
+-- An order doesn't change which rule is broken.
+ordered_refusal : SiftedIsPermutation → RefusedInAnyOrder → (o : InputOrder) (q : Question) → refusal (ordered o q) None ≡ refusal q None
+ordered_refusal permuted same order.Given q = refl
+ordered_refusal permuted same order.Sifted q = same q (sifted q) (permuted q)
+
+pub same_refusal : SiftedIsPermutation → RefusedInAnyOrder → (o : InputOrder) (asked q : Question) → q ≡ ordered o asked → refusal asked None ≡ refusal q None
+same_refusal permuted same o asked q order = sym (ordered_refusal permuted same o asked) ∙ ap (λ (x : Question). refusal x None) (sym order)
+
+-- What a cursor over the groups of a question in an order has to give, in a form, is what is asked.
+module _ (limit : Option ℕ) (q ordered_q : Question) (order : q ≡ ordered_q) (c : GroupCursor) (made : rows_left c ≡ rows (is_cause q) (length q.listed) 0) where
+  rows_are : rows_left c ≡ rows (is_cause ordered_q) (length ordered_q.listed) 0
+  rows_are = made ∙ ap (λ (x : Question). rows (is_cause x) (length x.listed) 0) order
+
+  pub groups_are : (form : GroupForm) (shape : GroupFormat) → form ≡ form_on shape q.coil → c.program ≡ q.program → c.listed ≡ q.listed
+      → form_text form c.program c.listed (limited limit (rows_left c)) ≡ groups_text shape limit ordered_q
+  groups_are form shape same of_program of_listed =
+      ap (λ (f : GroupForm). form_text f c.program c.listed (limited limit (rows_left c))) (same ∙ ap (λ (x : Question). form_on shape x.coil) order)
+      ∙ ap (λ (d : Drawing). form_text (form_on shape ordered_q.coil) d c.listed (limited limit (rows_left c))) (of_program ∙ ap (λ (x : Question). x.program) order)
+      ∙ ap (λ (g : List ℕ). form_text (form_on shape ordered_q.coil) ordered_q.program g (limited limit (rows_left c))) (of_listed ∙ ap (λ (x : Question). x.listed) order)
+      ∙ ap (λ rs. form_text (form_on shape ordered_q.coil) ordered_q.program ordered_q.listed (limited limit rs)) rows_are
+
+  pub group_counts_are : (s : GroupSummary) → s.rows ≡ length (limited limit (rows_left c)) → s.causes ≡ causes_in (limited limit (rows_left c))
+      → counts.Groups s ≡ group_counts limit ordered_q
+  group_counts_are s h l =
+      groups_summary_is s _ _ (h ∙ ap (λ rs. length (limited limit rs)) rows_are) (l ∙ ap (λ rs. causes_in (limited limit rs)) rows_are)
