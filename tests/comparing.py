@@ -10,7 +10,7 @@ import re
 from collections import Counter
 from typing import NamedTuple
 
-from lanes import MOMENT, Everywhere, Lanes, do_suffice, never_both, of_value, open_bits, steady
+from lanes import MOMENT, Everywhere, Lanes, do_suffice, of_value, open_bits, stay_together
 from model import FORMS, Program, classes_answer, judged_answer, text_of
 from running import Running, bits_of
 from transcript import differences, run
@@ -345,7 +345,7 @@ def compare_never(trial):
     found += run_at_random(trial, named)
     if len(open_bits(program)) > MOST_BITS:
         return found
-    most = steady(program)
+    most = stay_together(program)[0]
     for value, what in ((False, "come ON"), (True, "go OFF")):
         trial.tally[f"names that never {what}"] += len(of_value(most, value))
         trial.tally[f"of these that never {what} named"] += len(of_value(named, value))
@@ -378,8 +378,7 @@ def compare_pairs(trial):
     found += run_pairs_at_random(trial, pairs)
     if len(open_bits(program)) > MOST_BITS:
         return found
-    known = steady(program)
-    most = never_both(program, known)
+    known, most = stay_together(program)
     trial.tally["pairs that are never both ON"] += len(most)
     trial.tally["of these pairs named"] += len(pairs & most)
     wrong = sorted(pair for pair in pairs - most if not known.keys() & set(pair))

@@ -5,7 +5,7 @@ A NAME, as `cli_lists.Lists.ListsCauses`, is a definition in crates/CRATE/specs/
 definitions that it uses, directly or through others, with their lines, and the sum. Comments, imports and empty lines don't count. The
 types of the code and the constants in it are no definitions.
 
-docs/proof/definitions.md has a table of theorems: `| theorem | NAME | lines | definitions | items |`. With `--check` its numbers are
+docs/proof/definitions.md has a table of theorems: `| theorem | NAMES | lines | definitions | items |`. With `--check` its numbers are
 compared with the tree, with `--write` they are written.
 """
 import pathlib
@@ -18,7 +18,7 @@ WORD = re.compile(r"[A-Za-z_][A-Za-z0-9_]*")
 HEAD = re.compile(r"(?:(?:pub|unfoldable|abbrev|opaque) )*(?:(?:record|data) )?([A-Za-z_][A-Za-z0-9_-]*) ?(?=[:(])"
                   r"|(?:pub )?(?:record|data) ([A-Za-z_]\w*)")
 IMPORT = re.compile(r"use Rattle\.(\w+)\.specs\.(\w+)(?:\.\w+)*(?:\.\{(.*)\})?(?: as (\w+))?")
-ROW = re.compile(r"\| (?P<theorem>[^|]+) \| `(?P<name>[\w.]+)` \| (?P<lines>[\d,]+) \| (?P<definitions>[\d,]+) \|")
+ROW = re.compile(r"\| (?P<theorem>[^|]+) \| (?P<names>`[\w.]+`(?:, `[\w.]+`)*) \| (?P<lines>[\d,]+) \| (?P<definitions>[\d,]+) \|")
 
 
 def read(path):
@@ -78,8 +78,8 @@ def find(files, name):
     return parts
 
 
-def sums(files, name):
-    seen = below(files, find(files, name))
+def sums(files, *names):
+    seen = set().union(*(below(files, find(files, name)) for name in names))
     return sum(len(files[one[:2]][0][one[2]]) for one in seen), len(seen)
 
 
@@ -100,8 +100,8 @@ def main():
     text = PAGE.read_text("utf-8")
 
     def row(match):
-        lines, definitions = sums(files, match["name"])
-        return f"| {match['theorem']} | `{match['name']}` | {lines:,} | {definitions:,} |"
+        lines, definitions = sums(files, *match["names"].replace("`", "").split(", "))
+        return f"| {match['theorem']} | {match['names']} | {lines:,} | {definitions:,} |"
 
     known, rows = ROW.sub(row, text), len(ROW.findall(text))
     if words == ["--write"]:
