@@ -10,9 +10,10 @@ use Rattle.scan_cycle.proofs.ByList.{scanned_is}
 use Rattle.scan_cycle.proofs.Possible.{after_sound, scanned_possible, scanned_shapes}
 use Rattle.scan_cycle.proofs.Sizes.{scan_lengths}
 use Rattle.invariant_sets.specs.Invariants.{StaysForEver}
-use Rattle.invariant_sets.specs.Never.{IsSo, OneScan, after_each}
+use Rattle.scan_cycle.specs.Runs.{IsRun, OneScan, after_each}
+use Rattle.invariant_sets.specs.Never.{IsSo}
 use Rattle.invariant_cases.specs.Allowing.{AreApart}
-use Rattle.causes_any_state.specs.Reached.{IsRun, RunsStay, reached}
+use Rattle.causes_any_state.specs.Reached.{RunsStay, reached}
 
 -- the state that one scan leaves
 abbrev next : Drawing → OneScan → Standing → Standing

@@ -1,18 +1,13 @@
 -- What stays so in each state that a run reaches.
-use Rattle.std.specs.Prelude.{ℕ, ◌<◌, ◌≤◌, ◌^◌, List, [], ◌∷◌}
+use Rattle.std.specs.Prelude.{List, [], ◌∷◌}
 use Rattle.diagram_program.specs.Program.{Drawing}
 use Rattle.scan_cycle.specs.Programs.{diagram_of}
+use Rattle.scan_cycle.specs.Runs.{IsRun, OneScan}
 use Rattle.scan_cycle.specs.Scan.{after_scan}
 use Rattle.scan_cycle.specs.Standing.{Standing, Fits, IsStanding}
 use Rattle.invariant_sets.specs.Invariants.{IsStaying}
-use Rattle.invariant_sets.specs.Never.{OneScan}
 use Rattle.causes_any_state.specs.Possible.{StaysSo}
 use Rattle.invariant_sets.specs.declared.staying.Staying.{Staying}
-
--- Some scans are a run: from a first moment on their moments don't fall, and they have 64 bits.
-abbrev pub IsRun : ℕ → List OneScan → Type 0
-IsRun from [] = Unit {0}
-IsRun from (scan ∷ more) = (from ≤ scan.moment) × (scan.moment < 2 ^ 64) × IsRun scan.moment more
 
 -- The state that these scans leave, one after the other.
 abbrev pub reached : Drawing → List OneScan → Standing → Standing

@@ -32,8 +32,8 @@ use Rattle.scan_held.specs.declared.scans.HeldCause.{HeldCause}
 use Rattle.scan_held.specs.declared.scans.Scans.{Scans}
 use Rattle.text_lists.specs.SteadyText.{steady_rows, steady_text}
 use Rattle.invariant_sets.specs.Invariants.{IsStaying}
-use Rattle.invariant_sets.specs.Never.{IsSo, after_each}
-use Rattle.invariant_sets.specs.Never as never
+use Rattle.scan_cycle.specs.Runs.{OneScan, after_each}
+use Rattle.invariant_sets.specs.Never.{IsSo}
 use Rattle.text_lists.specs.PairText.{pairs_text}
 use Rattle.invariant_cases.specs.Allowing.{AreApart}
 use Rattle.invariant_sets.specs.Pairs.{HasToldApart}
@@ -316,7 +316,7 @@ pub record ListsNever (shut_out : Excluded) (g : Given) (Written : List ℕ → 
   pub staying : Staying
   pub stays : IsStaying program state staying
   pub told : HasToldApart program state staying.steady staying.apart
-  pub so : (scans : List never.OneScan)
+  pub so : (scans : List OneScan)
       → IsSo staying.steady (after_each (diagram_of program) scans state.held) × AreApart staying.apart (after_each (diagram_of program) scans state.held)
   pub rows : Written (never_text shut_out program staying)
 

@@ -27,7 +27,8 @@ use Rattle.invariant_cases.specs.Outcomes.{MayStore, outcomes}
 use Rattle.invariant_cases.specs.declared.pair.Pair.{Pair}
 use Rattle.invariant_cases.proofs.Settling.{settled_both}
 use Rattle.invariant_sets.specs.Invariants.{IsSettledSo, KnowingAllows, StaysForEver}
-use Rattle.invariant_sets.specs.Never.{Bits, IsSetOf, IsSo, OneScan, after_each, claims, knowing}
+use Rattle.scan_cycle.specs.Runs.{OneScan, after_each}
+use Rattle.invariant_sets.specs.Never.{Bits, IsSetOf, IsSo, claims, knowing}
 use Rattle.invariant_sets.specs.Pairs.{ArePairs, IsOutside, IsPairOutside}
 use Rattle.invariant_sets.proofs.Listed.{blocks_allow, given_none, given_same, memories_allow, no_input_in, values_allow}
 

@@ -8,7 +8,8 @@ use Rattle.scan_signals.specs.Three.{three_known}
 use Rattle.invariant_cases.specs.Allowing.{AllowsState, AreApart}
 use Rattle.invariant_cases.specs.Cases.{IsSettledBoth, of_itself}
 use Rattle.invariant_cases.specs.declared.pair.Pair.{Pair}
-use Rattle.invariant_sets.specs.Never.{Bits, IsSetOf, IsSo, IsWithin, OneScan, Stays, after_each, claims, knowing}
+use Rattle.scan_cycle.specs.Runs.{OneScan, after_each}
+use Rattle.invariant_sets.specs.Never.{Bits, IsSetOf, IsSo, IsWithin, Stays, claims, knowing}
 use Rattle.invariant_sets.specs.Pairs.{ArePairs}
 use Rattle.invariant_sets.specs.declared.staying.Staying.{Staying}
 

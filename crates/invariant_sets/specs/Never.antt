@@ -1,13 +1,11 @@
 -- What never changes: sets of variables and of Qs of which some stay OFF and some stay ON, together, whatever the inputs do.
-use Rattle.std.specs.Prelude.{◌≡◌, ℕ, Bool, true, false, List, [], ◌∷◌, length, map, replicate, slice_index_or}
+use Rattle.std.specs.Prelude.{◌≡◌, ℕ, Bool, true, false, List, [], length, map, replicate, slice_index_or}
 use Rattle.diagram_declarations.specs.declared.kind.BlockKind.TheVariants.{Ton}
 use Rattle.diagram_declarations.specs.Decls.{is_input}
 use Rattle.diagram_program.specs.Program.{Drawing, memories_of}
 use Rattle.scan_signals.specs.Blocks.{q_of, new_block}
-use Rattle.scan_cycle.specs.Cells.{Diagram}
 use Rattle.scan_cycle.specs.Programs.{diagram_of}
 use Rattle.scan_cycle.specs.Rung.{Held}
-use Rattle.scan_cycle.specs.Scan.{after_scan}
 use Rattle.scan_symbolic.specs.KnownScan.{Known, after_known, kept_at}
 use Rattle.scan_signals.specs.Three.{three, three_known}
 use Rattle.scan_signals.specs.declared.tri.Tri.{Tri}
@@ -59,15 +57,3 @@ pub record Stays (p : Drawing) (z : Bits) : Type 0 where
 pub record IsWithin (z w : Bits) : Type 0 where
   pub variables : (var : ℕ) (value : Bool) → claims z.variables var ≡ three_known value → claims w.variables var ≡ three_known value
   pub instances : (inst : ℕ) (value : Bool) → claims z.instances inst ≡ three_known value → claims w.instances inst ≡ three_known value
-
--- ---- scans
-
--- The moment of a scan, and the values that it gives the inputs.
-pub record OneScan : Type 0 where
-  pub moment : ℕ
-  pub inputs : List Bool
-
--- What these scans leave, one after the other.
-unfoldable pub after_each : Diagram → List OneScan → Held → Held
-after_each d [] h = h
-after_each d (scan ∷ more) h = after_each d more (after_scan d scan.moment scan.inputs h)

@@ -4,7 +4,8 @@ ghost use Rattle.std.specs.Prelude.{◌≡◌, [], IfOk, List};
 ghost use Rattle.scan_cycle.specs.Programs.{diagram_of};
 ghost use Rattle.scan_cycle.specs.Standing.{Fits};
 ghost use Rattle.invariant_sets.specs.Invariants.{IsSteady};
-ghost use Rattle.invariant_sets.specs.Never.{after_each, IsSo, OneScan, Stays};
+ghost use Rattle.scan_cycle.specs.Runs.{OneScan, after_each};
+ghost use Rattle.invariant_sets.specs.Never.{IsSo, Stays};
 
 use crate::first_claims::begin;
 use crate::laws;

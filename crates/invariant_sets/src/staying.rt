@@ -5,7 +5,8 @@ ghost use Rattle.scan_cycle.specs.Programs.{diagram_of};
 ghost use Rattle.scan_cycle.specs.Standing.{Fits};
 ghost use Rattle.invariant_cases.specs.Allowing.{AreApart};
 ghost use Rattle.invariant_sets.specs.Invariants.{IsStaying, IsSteady};
-ghost use Rattle.invariant_sets.specs.Never.{IsSo, OneScan, after_each};
+ghost use Rattle.scan_cycle.specs.Runs.{OneScan, after_each};
+ghost use Rattle.invariant_sets.specs.Never.{IsSo};
 ghost use Rattle.invariant_sets.specs.Pairs.{HasToldApart};
 
 use crate::first_claims::begin_with;

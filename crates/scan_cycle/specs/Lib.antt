@@ -2,6 +2,7 @@ pub mod Routes
 pub mod Cells
 pub mod Rung
 pub mod Scan
+pub mod Runs
 pub mod Laws
 pub mod Programs
 pub mod Standing
