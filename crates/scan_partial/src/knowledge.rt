@@ -78,6 +78,40 @@ impl<S: Signal, B: Keep<S>> Knowledge<S, B> {
         self.blocks.copy_from_slice(&other.blocks);
     }
 
+    /// Becomes what these say, in order: a value for each variable, each memory, and what is kept of each instance. It needs no memory.
+    pub fn set_parts(&mut self, values: &[S], memories: &[S], blocks: &[B])
+        requires values { length values.now ≡ length self.old.values }
+        requires memories { length memories.now ≡ length self.old.memories }
+        requires blocks { length blocks.now ≡ length self.old.blocks }
+        requires sure { AreSure S.algebra S.value B.kept B.keeping (record { values = values.now; memories = memories.now; blocks = blocks.now }) }
+        ensures { self.new ≡ record { values = values.now; memories = memories.now; blocks = blocks.now } }
+    {
+        self.values.copy_from_slice(values);
+        self.memories.copy_from_slice(memories);
+        self.blocks.copy_from_slice(blocks);
+    }
+
+    /// The values of the variables, in order of declaration.
+    pub fn values(&self) -> &[S]
+        ensures { result.now ≡ self.now.values }
+    {
+        &self.values
+    }
+
+    /// The memories of edges, by their numbers.
+    pub fn memories(&self) -> &[S]
+        ensures { result.now ≡ self.now.memories }
+    {
+        &self.memories
+    }
+
+    /// What is kept of the instances, in order of declaration.
+    pub fn blocks(&self) -> &[B]
+        ensures { result.now ≡ self.now.blocks }
+    {
+        &self.blocks
+    }
+
     /// The value of a variable, and OFF past the last one.
     pub fn value(&self, var: usize) -> S
         ensures { result ≡ slice_index_or self.now.values var (S.algebra.known false) }
