@@ -1,0 +1,12 @@
+//! Runs that switch something on: what is asked of the runs from a state, and the replay of one.
+#![tactic(auto)]
+
+mod query;
+mod replay;
+mod run;
+mod timing;
+
+pub use query::RunQuery;
+pub use replay::switches_on;
+pub use run::RunScan;
+pub use timing::Timing;
