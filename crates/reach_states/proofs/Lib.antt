@@ -1,0 +1,3 @@
+mod Ageing
+mod Knowing
+pub mod Splitting

@@ -1,0 +1,4 @@
+pub mod Untimed
+pub mod UntimedKept
+pub mod Allowing
+pub mod UntimedLaws
