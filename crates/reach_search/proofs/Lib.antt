@@ -1,0 +1,9 @@
+mod AskingLaws
+mod Ends
+mod EqLaws
+mod Growing
+mod InputLaws
+mod Leading
+mod Reaching
+mod RowLaws
+mod TargetLaws

@@ -1,0 +1,4 @@
+pub mod Tables
+pub mod Sets
+pub mod Visits
+pub mod Searches

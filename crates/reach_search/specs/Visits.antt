@@ -1,0 +1,71 @@
+-- Scans that lead from states to states of a set, with the target OFF.
+use Rattle.std.specs.Prelude.{◌≡◌, ◌<◌, ◌≤◌, ℕ, ◌+◌, Bool, false, List}
+use Rattle.diagram_declarations.specs.declared.decls.Symbol.{Symbol}
+use Rattle.diagram_declarations.specs.declared.decls.Symbol.TheVariants as symbol
+use Rattle.scan_cycle.specs.Cells.{Diagram}
+use Rattle.scan_cycle.specs.Programs.{diagram_of}
+use Rattle.scan_cycle.specs.Rung.{Held}
+use Rattle.scan_cycle.specs.Scan.{after_scan}
+use Rattle.scan_signals.specs.Relations.{Both}
+use Rattle.scan_signals.specs.Three.{three_meet}
+use Rattle.scan_signals.specs.declared.tri.Tri.{Tri}
+use Rattle.scan_signals.specs.declared.tri.Tri.TheVariants.{Off}
+use Rattle.scan_symbolic.specs.KnownScan.{Known, kept_at}
+use Rattle.std.specs.Prelude.{slice_index_or}
+use Rattle.invariant_cases.specs.Allowing.{Allows, are_both_on}
+use Rattle.invariant_cases.specs.declared.pair.Pair.{Pair}
+use Rattle.reach_runs.specs.Asking.{Gives, RunQuestion}
+use Rattle.reach_runs.specs.declared.timing.Timing.{Timing}
+use Rattle.reach_runs.specs.declared.timing.Timing.TheVariants.{AnyMoments, Every}
+use Rattle.reach_states.specs.Allowing.{AllowsState}
+use Rattle.reach_states.specs.Untimed.{q_untimed, untimed}
+use Rattle.reach_states.specs.declared.untimed.Untimed.{Untimed}
+use Rattle.reach_search.specs.Sets.{count_of, state_at}
+use Rattle.reach_search.specs.declared.state_set.StateSet.{StateSet}
+
+-- What is known of the value of a variable, or of the output of an instance, and of whether both of a pair are ON.
+abbrev pub told : Symbol → Known Tri Untimed → Tri
+told (symbol.Var var) k = slice_index_or k.values var Off
+told (symbol.Instance inst) k = q_untimed (kept_at untimed k inst)
+
+abbrev pub both_told : Pair → Known Tri Untimed → Tri
+both_told pair k = three_meet (told pair.first k) (told pair.second k)
+
+-- The state may be one of the set, where it is left by a scan at this moment.
+abbrev pub IsIn : Timing → Diagram → StateSet → ℕ → Held → Type 0
+IsIn timing d set now h = (number : ℕ) × (number < count_of set) × AllowsState timing d now (state_at set number) h
+
+-- A scan at this moment left the target OFF, and a state that may be one of the set.
+pub record Arrives (q : RunQuestion) (set : StateSet) (now : ℕ) (h : Held) : Type 0 where
+  pub off : are_both_on h q.target ≡ false
+  pub there : IsIn q.timing (diagram_of q.program) set now h
+
+-- Each scan arrives that is made of one of these states, with inputs that are known in part.
+abbrev pub Leads : RunQuestion → StateSet → (ℕ → Held → Type 0) → List Tri → Type 0
+Leads q set allows inputs = (now : ℕ) (h : Held) → allows now h → (xs : List Bool) → Both Allows inputs xs
+    → Arrives q set now (after_scan (diagram_of q.program) now xs h)
+
+-- The moment of the next scan, in a rhythm after so much time.
+abbrev pub Passes : Timing → ℕ → ℕ → ℕ → Type 0
+Passes AnyMoments time now later = now ≤ later
+Passes (Every every) time now later = later ≡ now + time
+
+-- Each scan arrives that is made next of a state that may be this one.
+abbrev pub LeadsOn : RunQuestion → StateSet → Known Tri Untimed → ℕ → List Tri → Type 0
+LeadsOn q set k time inputs = (now later : ℕ) → Passes q.timing time now later → (h : Held) → AllowsState q.timing (diagram_of q.program) now k h
+    → (xs : List Bool) → Both Allows inputs xs → Arrives q set later (after_scan (diagram_of q.program) later xs h)
+
+abbrev pub time_of : Timing → ℕ
+time_of AnyMoments = 0
+time_of (Every every) = every
+
+-- Each scan arrives that is asked about and made next of a state that may be the one of the number.
+abbrev pub IsVisited : RunQuestion → StateSet → ℕ → Type 0
+IsVisited q set number = (now later : ℕ) → Passes q.timing (time_of q.timing) now later → (h : Held)
+    → AllowsState q.timing (diagram_of q.program) now (state_at set number) h → (xs : List Bool) → Gives q xs
+    → Arrives q set later (after_scan (diagram_of q.program) later xs h)
+
+-- The second set has the states of the first, by the same numbers, and maybe more.
+pub record Grows (old new : StateSet) : Type 0 where
+  pub more : count_of old ≤ count_of new
+  pub same : (number : ℕ) → number < count_of old → state_at new number ≡ state_at old number

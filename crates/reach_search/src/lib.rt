@@ -1,0 +1,16 @@
+//! The search for a run that switches something on, breadth first over states without moments.
+#![tactic(auto)]
+
+mod index;
+mod moments;
+mod rows;
+mod search;
+mod seeking;
+mod state_set;
+mod target;
+mod telling;
+mod visiting;
+mod ways;
+
+pub use search::Limits;
+pub use seeking::{Sought, Verdict, seek};
