@@ -1,0 +1,6 @@
+mod Chosen
+mod Cut
+mod Given
+mod Named
+mod Plain
+mod Told
