@@ -1,5 +1,5 @@
 -- A set that grows keeps its states, so that scans still lead to it.
-use Rattle.std.proofs.Common.{◌≡◌, ◌∙◌, ◌<◌, ◌+◌, ℕ, List, refl, sym, subst, arith}
+use Rattle.std.proofs.Common.{◌≡◌, ◌∙◌, ◌<◌, ℕ, List, refl, sym, subst, arith}
 use Rattle.scan_cycle.specs.Cells.{Diagram}
 use Rattle.scan_cycle.specs.Programs.{diagram_of}
 use Rattle.scan_cycle.specs.Rung.{Held}
@@ -11,7 +11,7 @@ use Rattle.reach_states.specs.Allowing.{AllowsState}
 use Rattle.reach_states.specs.declared.untimed.Untimed.{Untimed}
 use Rattle.reach_search.specs.Searches.{AreAsked}
 use Rattle.reach_search.specs.Sets.{count_of, state_at}
-use Rattle.reach_search.specs.Visits.{Arrives, Grows, IsIn, IsVisited, Leads, LeadsOn, time_of}
+use Rattle.reach_search.specs.Visits.{Arrives, Grows, IsIn, IsVisited, LeadsOn, time_of}
 use Rattle.reach_search.specs.declared.state_set.StateSet.{StateSet}
 
 pub grows_same : (s : StateSet) → Grows s s
@@ -30,16 +30,9 @@ in_grown timing d old new g now h i =
 pub arrives_grown : (q : RunQuestion) (old new : StateSet) → Grows old new → (now : ℕ) (h : Held) → Arrives q old now h → Arrives q new now h
 arrives_grown q old new g now h a = record { off = a.off; there = in_grown q.timing (diagram_of q.program) old new g now h a.there }
 
-pub leads_grown : (q : RunQuestion) (old new : StateSet) → Grows old new → (allows : ℕ → Held → Type 0) (inputs : List Tri) → Leads q old allows inputs → Leads q new allows inputs
-leads_grown q old new g allows inputs l = λ now h a xs b. arrives_grown q old new g now _ (l now h a xs b)
-
 pub visited_grown : (q : RunQuestion) (old new : StateSet) → Grows old new → (number : ℕ) → number < count_of old → IsVisited q old number → IsVisited q new number
 visited_grown q old new g number lt v = λ now later p h a xs x.
     arrives_grown q old new g later _ (v now later p h (subst (λ (k : Known Tri Untimed). AllowsState q.timing (diagram_of q.program) now k h) (g.same number lt) a) xs x)
-
--- A set with one state more.
-pub grows_more : (old new : StateSet) → count_of new ≡ count_of old + 1 → ((number : ℕ) → number < count_of old → state_at new number ≡ state_at old number) → Grows old new
-grows_more old new e same = record { more = omega arith; same = same }
 
 -- The state of a number is visited where scans lead on from what is known of it.
 pub visited_here : (q : RunQuestion) (set new : StateSet) (number : ℕ) (k : Known Tri Untimed) (inputs : List Tri) → AreAsked q inputs → k ≡ state_at set number → Grows set new

@@ -1,5 +1,4 @@
 mod AskingLaws
-mod Ends
 mod EqLaws
 mod Growing
 mod InputLaws

@@ -68,6 +68,12 @@ all_more P (scan ∷ front) last h =
     let more = all_more P front last (All-tail P scan (front ++ last ∷ []) h) in
     (All-cons P scan front (All-head P scan (front ++ last ∷ []) h) more.0, more.1)
 
+-- What is known at first allows the state, at any moments or in a rhythm.
+pub allows_first : (timing : Timing) (d : Diagram) (now : ℕ) (k : Known Tri Untimed) (h : Held) → AllowsState AnyMoments d now k h
+    → ((every : ℕ) → AllowsState (Every every) d now k h) → AllowsState timing d now k h
+allows_first AnyMoments d now k h any rhythm = any
+allows_first (Every every) d now k h any rhythm = rhythm every
+
 -- ---- what is reached
 
 module _ (q : RunQuestion) where

@@ -52,10 +52,11 @@ IsVerdict q Open = Unit {0}
 abbrev pub IsEnding : RunQuestion → Ending → List OneScan → Type 0
 IsEnding q ending.Found run = SwitchesOn q run
 IsEnding q ending.Never run = NeverOn q
-IsEnding q ending.Open run = Unit {0}
+IsEnding q other run = Unit {0}
 
 -- No further scans are to be made.
 abbrev pub is_end : Visit → Bool
+is_end visit.Unclear = true
 is_end visit.Full = true
 is_end visit.Found = true
 is_end other = false
@@ -63,6 +64,7 @@ is_end other = false
 -- How a search ends whose last visit was so.
 abbrev pub ending_of : Visit → Ending
 ending_of visit.Found = ending.Found
+ending_of visit.Unclear = ending.Unclear
 ending_of other = ending.Open
 
 -- What is known of an input: it is open where it is listed, and otherwise has its stored value.

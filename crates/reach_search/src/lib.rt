@@ -1,6 +1,7 @@
-//! The search for a run that switches something on, breadth first over states without moments.
+//! The search for a run that switches something on, breadth first over states without moments of which only so much is kept as is of use.
 #![tactic(auto)]
 
+mod choosing;
 mod index;
 mod moments;
 mod rows;

@@ -6,6 +6,7 @@ ghost use Rattle.reach_runs.specs.Asking.{question_of};
 ghost use Rattle.reach_search.specs.Searches.{AreAsked, IsSearchOf, input_value};
 ghost use Rattle.reach_search.specs.Sets.{count_of};
 
+use crate::choosing::Chooser;
 use crate::index::Index;
 use crate::state_set::StateSet;
 use crate::telling::Teller;
@@ -44,6 +45,7 @@ pub(crate) struct Search {
     pub index: Index,
     pub ways: Ways,
     pub teller: Teller,
+    pub chooser: Chooser,
     /// The run that was found.
     pub run: Vec<RunScan>,
 }
@@ -98,6 +100,7 @@ impl Search {
             index: Index::new(alloc)?,
             ways: Ways::new(alloc, inputs.len(), instances),
             teller: Teller::new(alloc, query)?,
+            chooser: Chooser::new(alloc, program)?,
             run: Vec::new(alloc),
             inputs,
         })

@@ -1,6 +1,6 @@
 //! The search for a run that switches the target on, or the proof that there is none.
 
-ghost use Rattle.std.specs.Prelude.{◌≡◌, ◌≤◌, ◌<◌, ℕ, false, IfOk, length};
+ghost use Rattle.std.specs.Prelude.{◌≡◌, ◌≤◌, ◌<◌, ℕ, false, IfOk, IfSome, length};
 ghost use Rattle.scan_cycle.specs.Standing.{Fits};
 ghost use Rattle.reach_runs.specs.Asking.{RunQuestion, StaysOff, SwitchesOn, question_of};
 ghost use Rattle.reach_search.specs.Searches.{AreAsked, IsEnding, IsReachedIn, IsSearchOf, IsVerdict, ending_of, is_end};
@@ -10,6 +10,8 @@ ghost use Rattle.reach_search.specs.declared.visiting.Visit.TheVariants.{Closed,
 
 use crate::search::{Limits, Search};
 use crate::visiting::{Visit, Visiting, both, is_end, visit_scans};
+use diagram_program::Program;
+use reach_leads::{Kept, forget};
 use reach_runs::{RunQuery, RunScan, Timing};
 use reach_states::know_untimed;
 use scan_cycle::Memory;
@@ -32,7 +34,7 @@ pub struct Sought {
     pub verdict: Verdict,
     /// No run of at most so many scans switches the target on.
     pub scans: u64,
-    /// How many states it kept.
+    /// How many states the last search kept.
     pub states: usize,
 }
 
@@ -45,6 +47,8 @@ pub(crate) enum Ending {
     Never,
     /// It isn't settled.
     Open,
+    /// It isn't settled, and may be where more is kept of the states.
+    Unclear,
 }
 
 /// How a search ended, and that no run of at most so many scans switches the target on.
@@ -120,7 +124,7 @@ fn explore_on(
     for _ in 0..levels {
         let end = search.set.count();
         if first == end {
-            return Ok(Ending::Open);
+            return Ok(Ending::Unclear);
         }
         let seen = visit_states(visiting, search, first, end)?;
         if is_end(seen) {
@@ -137,6 +141,7 @@ fn ending_of(seen: Visit) -> Ending
 {
     match seen {
         Visit::Found => Ending::Found,
+        Visit::Unclear => Ending::Unclear,
         Visit::Closed | Visit::Missed | Visit::Full => Ending::Open,
     }
 }
@@ -168,7 +173,7 @@ fn explore(visiting: Visiting<'_>, search: &mut Search) -> Result<Explored, Memo
                 let ending = explore_on(visiting, search, first, visiting.limits.scans)?;
                 return Ok(Explored { ending, scans });
             }
-            Visit::Full | Visit::Found => {
+            Visit::Unclear | Visit::Full | Visit::Found => {
                 return Ok(Explored {
                     ending: ending_of(seen),
                     scans,
@@ -193,6 +198,7 @@ fn explore_all(visiting: Visiting<'_>, search: &mut Search) -> Result<Explored, 
 {
     let query = visiting.query;
     know_untimed(query.program, query.state, query.from, &mut search.before);
+    forget(query.program, visiting.kept, &mut search.before);
     let seen = visit_scans(visiting, search, 0)?;
     match seen {
         Visit::Closed => explore(visiting, search),
@@ -200,7 +206,7 @@ fn explore_all(visiting: Visiting<'_>, search: &mut Search) -> Result<Explored, 
             let ending = explore_on(visiting, search, 0, visiting.limits.scans)?;
             Ok(Explored { ending, scans: 0 })
         }
-        Visit::Full | Visit::Found => Ok(Explored {
+        Visit::Unclear | Visit::Full | Visit::Found => Ok(Explored {
             ending: ending_of(seen),
             scans: 0,
         }),
@@ -214,12 +220,56 @@ fn verdict_of(ending: Ending, run: Vec<RunScan>) -> Verdict
     match ending {
         Ending::Found => Verdict::Run(run),
         Ending::Never => Verdict::Never,
-        Ending::Open => Verdict::Open,
+        Ending::Open | Ending::Unclear => Verdict::Open,
     }
 }
 
-/// A run that switches the target on, or the proof that there is none, or none of at most so many scans. The search is breadth first, over
-/// states without moments.
+/// A search over states of which so much is kept. There is no answer where too little was, and then more is kept.
+fn search_keeping(
+    alloc: Global,
+    query: RunQuery<'_>,
+    limits: Limits,
+    kept: &mut Kept,
+) -> Result<Option<Sought>, Memory>
+    requires state { Fits query.program.now query.state.now }
+    requires from { query.state.now.moment ≤ query.from }
+    ensures verdict { IfOk result (λ found. IfSome found (λ s. IsVerdict (question_of query.entry) s.verdict)) }
+    ensures off { IfOk result (λ found. IfSome found (λ s. StaysOff (question_of query.entry) s.scans)) }
+{
+    let mut search = Search::new(alloc, query)?;
+    let visiting = Visiting {
+        alloc,
+        query,
+        limits,
+        kept,
+        from: None,
+    };
+    let explored = explore_all(visiting, &mut search)?;
+    if explored.ending == Ending::Unclear && search.chooser.widen(kept) {
+        return Ok(None);
+    }
+    let states = search.set.count();
+    let verdict = verdict_of(explored.ending, search.run);
+    Ok(Some(Sought {
+        verdict,
+        scans: explored.scans,
+        states,
+    }))
+}
+
+/// How many searches are made at most, each of which keeps more of the states than the one before.
+fn most_searches(program: &Program) -> usize {
+    let decls = program.decls();
+    decls
+        .vars()
+        .len()
+        .saturating_add(program.memories())
+        .saturating_add(decls.instances().len())
+        .saturating_add(1)
+}
+
+/// A run that switches the target on, or the proof that there is none, or none of at most so many scans. Each search is breadth first, over
+/// states without moments, of which the first one keeps nothing.
 ///
 /// # Errors
 ///
@@ -230,19 +280,15 @@ pub fn seek(alloc: Global, query: RunQuery<'_>, limits: Limits) -> Result<Sought
     ensures verdict { IfOk result (λ s. IsVerdict (question_of query.entry) s.verdict) }
     ensures off { IfOk result (λ s. StaysOff (question_of query.entry) s.scans) }
 {
-    let mut search = Search::new(alloc, query)?;
-    let visiting = Visiting {
-        alloc,
-        query,
-        limits,
-        from: None,
-    };
-    let explored = explore_all(visiting, &mut search)?;
-    let states = search.set.count();
-    let verdict = verdict_of(explored.ending, search.run);
+    let mut kept = Kept::nothing(alloc, query.program)?;
+    for _ in 0..most_searches(query.program) {
+        if let Some(sought) = search_keeping(alloc, query, limits, &mut kept)? {
+            return Ok(sought);
+        }
+    }
     Ok(Sought {
-        verdict,
-        scans: explored.scans,
-        states,
+        verdict: Verdict::Open,
+        scans: 0,
+        states: 0,
     })
 }

@@ -10,6 +10,7 @@ ghost use Rattle.reach_search.specs.Sets.{IsSetFor};
 use crate::moments::{Begin, Bound, least_moments};
 use crate::state_set::StateSet;
 use crate::ways::Ways;
+use reach_leads::{Kept, forget};
 use reach_runs::{RunQuery, RunScan, Timing, switches_on};
 use reach_states::{Untimed, know_untimed};
 use scan_cycle::scene::instance;
@@ -18,12 +19,13 @@ use scan_partial::Knowledge;
 use scan_signals::{Stored, Tri};
 use std::alloc::Global;
 
-/// What leads to a state: the set, the ways to its states, the one from which the last scan is, its inputs, and of which timers the time has
-/// passed in it.
+/// What leads to a state: the set, the ways to its states, what is kept of them, the ones on the way, the inputs of the last scan, and of which
+/// timers the time has passed in it.
 #[derive(Clone, Copy)]
 pub(crate) struct Way<'a> {
     pub set: &'a StateSet,
     pub ways: &'a Ways,
+    pub kept: &'a Kept,
     pub path: &'a [usize],
     pub inputs: &'a [Tri],
     pub over: &'a [bool],
@@ -157,6 +159,7 @@ fn bounds_of(
     let mut begins = begins_of(alloc, query)?;
     let mut bounds: Vec<Bound> = Vec::new(alloc);
     know_untimed(query.program, query.state, query.from, before);
+    forget(query.program, way.kept, before);
     for scan in 0..way.path.len() {
         if way.path[scan] < way.set.count() {
             way.set.read(query.program, way.path[scan], after);

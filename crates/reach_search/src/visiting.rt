@@ -13,21 +13,21 @@ ghost use Rattle.reach_states.specs.Allowing.{AllowsFrom, AllowsState};
 ghost use Rattle.reach_search.specs.Searches.{IsSearchOf, is_end};
 ghost use Rattle.reach_search.specs.Sets.{count_of, state_at};
 ghost use Rattle.reach_search.specs.Visits.{Grows, IsIn, Leads, LeadsOn, both_told};
-ghost use Rattle.reach_search.specs.declared.visiting.Visit.TheVariants.{Closed, Found, Full, Missed};
+ghost use Rattle.reach_search.specs.declared.visiting.Visit.TheVariants.{Closed, Found, Missed, Unclear};
 
 use crate::index::hash_of;
 use crate::search::{Limits, Search};
 use crate::target::both_told;
 use crate::telling::Way;
 use crate::ways::note_over;
-use diagram_declarations::BlockKind;
 use diagram_program::Program;
+use reach_leads::{Kept, forget};
 use reach_runs::{RunQuery, Timing};
 use reach_states::laws::scan_allows;
-use reach_states::{Untimed, age, next_waiting, over};
+use reach_states::{age, next_waiting, over};
 use scan_cycle::Memory;
 use scan_cycle::scene::instance;
-use scan_partial::{Knowledge, scan_known};
+use scan_partial::scan_known;
 use scan_signals::Tri;
 use std::alloc::Global;
 
@@ -38,6 +38,8 @@ pub(crate) enum Visit {
     Closed,
     /// One of them may leave the target ON, but no run was told that does.
     Missed,
+    /// It is open what one of them makes of the target: too little is kept of the states.
+    Unclear,
     /// There was no room for a state.
     Full,
     /// A run switches the target on.
@@ -50,6 +52,8 @@ pub(crate) struct Visiting<'a> {
     pub alloc: Global,
     pub query: RunQuery<'a>,
     pub limits: Limits,
+    /// What is kept of a state.
+    pub kept: &'a Kept,
     pub from: Option<usize>,
 }
 
@@ -63,6 +67,7 @@ pub(crate) fn both(one: Visit, other: Visit) -> Visit
         (Visit::Closed, Visit::Closed) => Visit::Closed,
         (Visit::Found, _) | (_, Visit::Found) => Visit::Found,
         (Visit::Full, _) | (_, Visit::Full) => Visit::Full,
+        (Visit::Unclear, _) | (_, Visit::Unclear) => Visit::Unclear,
         (Visit::Missed, _) | (_, Visit::Missed) => Visit::Missed,
     }
 }
@@ -72,7 +77,7 @@ pub(crate) fn is_end(visit: Visit) -> bool
     ensures { result ≡ is_end visit }
 {
     match visit {
-        Visit::Full | Visit::Found => true,
+        Visit::Unclear | Visit::Full | Visit::Found => true,
         Visit::Closed | Visit::Missed => false,
     }
 }
@@ -95,67 +100,6 @@ fn is_there(search: &Search, program: &Program, hash: u64) -> bool
     false
 }
 
-/// Leaves the inputs open, which the next scan gives.
-fn forget_inputs(program: &Program, known: &mut Knowledge<Tri, Untimed>)
-    requires { HasSizes program.now known.old }
-    ensures allows { (timing : TimingOf) (now : ℕ) (held : Held) → AllowsState timing (diagram_of program.now) now known.old held
-        → AllowsState timing (diagram_of program.now) now known.new held }
-    ensures sizes { HasSizes program.now known.new }
-{
-    let vars = program.decls().vars();
-    for var in 0..vars.len() {
-        if vars[var].is_input() {
-            known.put_value(var, Tri::Unsure);
-        }
-    }
-}
-
-/// Whether all values are known, but those of inputs.
-fn are_known(program: &Program, known: &Knowledge<Tri, Untimed>) -> bool {
-    let vars = program.decls().vars();
-    for var in 0..vars.len() {
-        if !vars[var].is_input() && known.value(var) == Tri::Unsure {
-            return false;
-        }
-    }
-    true
-}
-
-/// Whether all memories are known.
-fn are_memories_known(known: &Knowledge<Tri, Untimed>) -> bool {
-    for number in 0..known.memories().len() {
-        if known.memory(Some(number)) == Tri::Unsure {
-            return false;
-        }
-    }
-    true
-}
-
-/// Whether all that an instance of a kind keeps is known.
-fn is_known(kind: BlockKind, kept: Untimed) -> bool {
-    match (kind, kept) {
-        (BlockKind::Sr | BlockKind::Rs, Untimed::Output(q)) => q != Tri::Unsure,
-        (_, Untimed::Timer { .. } | Untimed::Counter { .. }) => true,
-        (_, Untimed::Output(_) | Untimed::Anything) => false,
-    }
-}
-
-/// Whether all that instances keep is known.
-fn are_blocks_known(program: &Program, known: &Knowledge<Tri, Untimed>) -> bool {
-    for inst in 0..program.decls().instances().len() {
-        let (kind, _preset) = instance(program, inst);
-        if !is_known(kind, known.kept(inst)) {
-            return false;
-        }
-    }
-    true
-}
-
-/// Whether all that is kept is known.
-fn is_whole(program: &Program, known: &Knowledge<Tri, Untimed>) -> bool {
-    are_known(program, known) && are_memories_known(known) && are_blocks_known(program, known)
-}
-
 /// A run by the way to the state and this scan.
 fn tell(visiting: Visiting<'_>, search: &mut Search) -> Result<Visit, Memory>
     requires state { Fits visiting.query.program.now visiting.query.state.now }
@@ -174,6 +118,7 @@ fn tell(visiting: Visiting<'_>, search: &mut Search) -> Result<Visit, Memory>
         set: &search.set,
         ways: &search.ways,
         path: &path,
+        kept: visiting.kept,
         inputs: &search.inputs,
         over: &search.over,
     };
@@ -205,10 +150,12 @@ fn arrive(visiting: Visiting<'_>, search: &mut Search) -> Result<Visit, Memory>
     ensures found { IfOk result (λ v. v ≡ Found → SwitchesOn (question_of visiting.entry.query) search.new.run.items) }
 {
     let program = visiting.query.program;
-    if both_told(visiting.query.target, &search.after) != Tri::Off {
-        return tell(visiting, search);
+    match both_told(visiting.query.target, &search.after) {
+        Tri::On => return tell(visiting, search),
+        Tri::Unsure => return Ok(Visit::Unclear),
+        Tri::Off => {}
     }
-    forget_inputs(program, &mut search.after);
+    forget(program, visiting.kept, &mut search.after);
     let hash = hash_of(&search.after);
     if is_there(search, program, hash) {
         return Ok(Visit::Closed);
@@ -225,22 +172,14 @@ fn arrive(visiting: Visiting<'_>, search: &mut Search) -> Result<Visit, Memory>
     Ok(Visit::Closed)
 }
 
-/// The first input from a place on that is open.
-fn next_open(inputs: &[Tri], place: usize) -> Option<usize>
-    ensures range { IfSome result (λ input. (place ≤ input) × (input < length inputs.now)) }
-    ensures open { IfSome result (λ input. slice_index_or inputs.now input tri.Off ≡ tri.Unsure) }
-{
-    for input in place..inputs.len() {
-        if inputs[input] == Tri::Unsure {
-            return Some(input);
-        }
-    }
-    None
-}
-
-/// Visits by an input of which both values are tried.
+/// Visits by an input of which both values are tried, and then by at most so many more.
 #[cycle(inputs)]
-fn by_input(visiting: Visiting<'_>, search: &mut Search, input: usize) -> Result<Visit, Memory>
+fn by_input(
+    visiting: Visiting<'_>,
+    search: &mut Search,
+    input: usize,
+    left: usize,
+) -> Result<Visit, Memory>
     requires state { Fits visiting.query.program.now visiting.query.state.now }
     requires from { visiting.query.state.now.moment ≤ visiting.query.from }
     requires search { IsSearchOf visiting.query.program.now search.old }
@@ -255,12 +194,12 @@ fn by_input(visiting: Visiting<'_>, search: &mut Search, input: usize) -> Result
     ensures found { IfOk result (λ v. v ≡ Found → SwitchesOn (question_of visiting.entry.query) search.new.run.items) }
 {
     search.inputs[input] = Tri::Off;
-    let off = visit_inputs(visiting, search, input + 1)?;
+    let off = visit_inputs(visiting, search, left)?;
     if is_end(off) {
         return Ok(off);
     }
     search.inputs[input] = Tri::On;
-    let on = visit_inputs(visiting, search, input + 1)?;
+    let on = visit_inputs(visiting, search, left)?;
     if is_end(on) {
         return Ok(on);
     }
@@ -268,12 +207,12 @@ fn by_input(visiting: Visiting<'_>, search: &mut Search, input: usize) -> Result
     Ok(both(off, on))
 }
 
-/// All scans from what is known, with all values of the inputs that are open from a place on.
+/// All scans from what is known, whatever the inputs that are open, of which at most so many are tried with both values.
 #[cycle(inputs)]
 pub(crate) fn visit_inputs(
     visiting: Visiting<'_>,
     search: &mut Search,
-    place: usize,
+    left: usize,
 ) -> Result<Visit, Memory>
     requires state { Fits visiting.query.program.now visiting.query.state.now }
     requires from { visiting.query.state.now.moment ≤ visiting.query.from }
@@ -295,10 +234,15 @@ pub(crate) fn visit_inputs(
         0,
         &mut search.room,
     );
-    match next_open(&search.inputs, place) {
-        Some(input) if !is_whole(visiting.query.program, &search.after) => by_input(
-            visiting, search, input,
-        ),
+    let choice = search.chooser.choose(
+        visiting.query,
+        visiting.kept,
+        &search.before,
+        &search.inputs,
+        &search.after,
+    );
+    match choice {
+        Some(input) if left > 0 => by_input(visiting, search, input, left - 1),
         _ => arrive(visiting, search),
     }
 }
@@ -319,7 +263,8 @@ fn visit_times(visiting: Visiting<'_>, search: &mut Search, inst: usize) -> Resu
 {
     let program = visiting.query.program;
     let Some(inst) = next_waiting(program, &search.before, inst) else {
-        return visit_inputs(visiting, search, 0);
+        let left = search.inputs.len();
+        return visit_inputs(visiting, search, left);
     };
     let blocks = search.before.blocks();
     let kept = blocks[inst];
@@ -353,7 +298,8 @@ pub(crate) fn visit_scans(
         Timing::AnyMoments => visit_times(visiting, search, 0),
         Timing::Every(_) => {
             age(visiting.query.program, time, &mut search.before);
-            visit_inputs(visiting, search, 0)
+            let left = search.inputs.len();
+            visit_inputs(visiting, search, left)
         }
     }
 }
