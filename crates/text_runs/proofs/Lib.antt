@@ -1,6 +1,14 @@
 mod Chosen
 mod Cut
+mod Filling
 mod Given
+mod InBrief
+mod Leaving
+mod Lengths
+mod Making
 mod Named
 mod Plain
+mod Rhythm
+mod Simulated
 mod Told
+mod Unique

@@ -6,9 +6,11 @@ use Rattle.diagram_declarations.specs.Decls.{is_input}
 use Rattle.diagram_declarations.specs.Name.{is_name}
 use Rattle.diagram_program.specs.Program.{Drawing}
 use Rattle.io_text.specs.Text.{ArePlainRecords, records_of}
+use Rattle.reach_runs.specs.Asking.{AreEvery}
 use Rattle.scan_cycle.specs.Runs.{OneScan}
+use Rattle.text_trace.specs.Filled.{all_fields, filled}
 use Rattle.text_trace.specs.Stimulus.{IsHeader, IsRow, given_by}
-use Rattle.text_runs.specs.RunText.{run_header, run_text, scan_row}
+use Rattle.text_runs.specs.RunText.{brief_scans, brief_text, run_header, run_text, scan_row}
 
 -- how many inputs the program has
 abbrev pub input_count : Drawing → ℕ
@@ -37,6 +39,17 @@ pub record TellsRun (p : Drawing) (scans : List OneScan) : Type 0 where
 -- The text of scans of the program is a stimulus that tells them.
 abbrev pub IsStimulusOfRun : Drawing → Type 0
 IsStimulusOfRun p = (scans : List OneScan) → All (IsScanOf p) scans → TellsRun p scans
+
+-- The brief text of scans in a rhythm is a stimulus that tells those that have a row. With the scans between its records it is the text of
+-- all scans.
+pub record TellsBriefly (p : Drawing) (every : ℕ) (scans : List OneScan) : Type 0 where
+  pub told : TellsRun p (brief_scans scans)
+  pub filled : all_fields (filled every (records_of (brief_text p scans))) ≡ records_of (run_text p scans)
+
+-- So it is for all scans of the program that are one every so many ms, from a moment on.
+abbrev pub IsBriefRun : Drawing → Type 0
+IsBriefRun p =
+    (every from : ℕ) (scans : List OneScan) → 0 < every → AreEvery every from scans → All (IsScanOf p) scans → TellsBriefly p every scans
 
 -- Private to the law: the names of variables are well formed.
 abbrev pub AreNamed : List Var → Type 0

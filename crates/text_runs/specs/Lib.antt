@@ -1,2 +1,4 @@
 pub mod RunText
+pub mod Rows
 pub mod Laws
+pub mod Making

@@ -32,7 +32,7 @@ fn add_names<W: Sink>(
 }
 
 /// Adds the header: the word for the moment, and the names of the inputs.
-fn add_header<W: Sink>(
+pub(crate) fn add_header<W: Sink>(
     buffer: &mut TextBuffer,
     program: &Program,
     writer: &mut W,
@@ -85,7 +85,7 @@ fn add_row<W: Sink>(
 }
 
 /// Adds the row of a scan.
-fn add_scan<W: Sink>(
+pub(crate) fn add_scan<W: Sink>(
     buffer: &mut TextBuffer,
     scan: &RunScan,
     writer: &mut W,

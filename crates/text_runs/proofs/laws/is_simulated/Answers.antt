@@ -1,0 +1,5 @@
+use Rattle.text_runs.proofs.Simulated as laws
+use Rattle.text_runs.proofs.laws.is_simulated.Goals as goal
+
+pub returns : goal.returns
+returns c = laws.is_simulated c.args.program.now c.is_stimulus.ensures
