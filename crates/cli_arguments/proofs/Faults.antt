@@ -5,7 +5,7 @@ use Rattle.std.proofs.lemmas.Bool.{both_ways}
 use Rattle.std.proofs.lemmas.Slice.Eq.{bytes_eq-Decides}
 use Rattle.clap.specs.Words.{Row, Text, all_of, first_of}
 use Rattle.cli_options.specs.Pages.{is_fault_code}
-use Rattle.cli_arguments.specs.Asking.{Asks, AsksNone, HasCoil, HasControl, HasEvery, HasExcluded, HasNoTask, HasFlag, HasForm, HasInputs, HasLasting, HasNumber, HasOption, HasScans, HasSwitch, HasWatched, HasOrder, IsNamed, IsOfOneState, IsSingle, IsTable, MayGroup, MayHaveLimit, NamesCauses, NamesList, NamesTrace, input_texts, inputs_for}
+use Rattle.cli_arguments.specs.Asking.{Asks, AsksNone, HasCoil, HasControl, HasEvery, HasExcluded, HasNoTask, HasFlag, HasForm, HasInputs, HasLasting, HasNumber, HasOption, HasPace, HasScans, HasSwitch, HasWatched, HasOrder, IsNamed, IsOfOneState, IsSingle, IsTable, MayGroup, MayHaveLimit, NamesCauses, NamesList, NamesTrace, input_texts, inputs_for}
 use Rattle.cli_arguments.specs.Parts.{HasGrouping, IsOfAnyState, IsOfOneScan, IsOfRecords, IsUncut, IsWhole, MayLast, NamesNoEnd, NamesNoStates, NamesScan, Plays}
 use Rattle.cli_arguments.specs.Faults.{UsageWhere}
 use Rattle.cli_arguments.specs.declared.request.GroupFormat.{GroupFormat}
@@ -25,8 +25,11 @@ use Rattle.cli_arguments.specs.declared.request.WavesRequest.{WavesRequest}
 use Rattle.cli_arguments.specs.declared.request.PossibleRequest.{PossibleRequest}
 use Rattle.cli_arguments.specs.declared.request.Excluded.{Excluded}
 use Rattle.cli_arguments.specs.declared.request.NeverRequest.{NeverRequest}
+use Rattle.cli_arguments.specs.declared.request.Pace.{Pace}
+use Rattle.cli_arguments.specs.declared.request.Pace.TheVariants.{AnyMoments, Every}
+use Rattle.cli_arguments.specs.declared.request.ReachRequest.{ReachRequest}
 use Rattle.cli_arguments.specs.declared.lasting.Lasting.TheVariants.{Count, Until}
-use Rattle.cli_arguments.specs.declared.request.Request.TheVariants.{Causes, Check, Film, Groups, Held, Import, Never, Possible, Progress, Relevant, Show, Sim, Uses, Watch, Waves}
+use Rattle.cli_arguments.specs.declared.request.Request.TheVariants.{Causes, Check, Film, Groups, Held, Import, Never, Possible, Progress, Reach, Relevant, Show, Sim, Uses, Watch, Waves}
 use Rattle.cli_arguments.specs.declared.request.WordFault.{WordFault}
 use Rattle.cli_arguments.specs.declared.request.WordFault.TheVariants.{Help, Memory, Mistake, Usage}
 use Rattle.cli_arguments.specs.declared.request.Task.TheVariants.{Explain, Perform, PerformAll}
@@ -70,6 +73,7 @@ module _ (name : List ℕ) (rows : List Row)
     (sim : name ≡ codes "sim" → ((r : SimRequest) → Asks name rows (Sim r) → ⊥) × ((r : WatchRequest) → Asks name rows (Watch r) → ⊥) × ((r : WavesRequest) → Asks name rows (Waves r) → ⊥))
     (uses : name ≡ codes "uses" → (file : String Global) → Asks name rows (Uses file) → ⊥)
     (never : name ≡ codes "never" → (r : NeverRequest) → Asks name rows (Never r) → ⊥)
+    (reach : name ≡ codes "reach" → (r : ReachRequest) → Asks name rows (Reach r) → ⊥)
     (import : name ≡ codes "import" → (opened control_on : Bool) (file : String Global) (hal : Option (String Global)) → Asks name rows (Import opened control_on file hal) → ⊥) where
   by_subcommand : AsksNone name rows
   by_subcommand (Check file warns) h = check h.0 file warns h
@@ -86,12 +90,13 @@ module _ (name : List ℕ) (rows : List Row)
   by_subcommand (Waves r) h = (sim h.0).2 r h
   by_subcommand (Uses file) h = uses h.0 file h
   by_subcommand (Never r) h = never h.0 r h
+  by_subcommand (Reach r) h = reach h.0 r h
   by_subcommand (Import opened control_on file hal) h = import h.0 opened control_on file hal h
 
 -- The subcommand that explains makes no request.
 explains_alone : (rows : List Row) → AsksNone (codes "explain") rows
 explains_alone rows = by_subcommand (codes "explain") rows (apart (codes "explain") (codes "check") refl) (apart (codes "explain") (codes "causes") refl) (apart (codes "explain") (codes "show") refl)
-    (apart (codes "explain") (codes "sim") refl) (apart (codes "explain") (codes "uses") refl) (apart (codes "explain") (codes "never") refl) (apart (codes "explain") (codes "import") refl)
+    (apart (codes "explain") (codes "sim") refl) (apart (codes "explain") (codes "uses") refl) (apart (codes "explain") (codes "never") refl) (apart (codes "explain") (codes "reach") refl) (apart (codes "explain") (codes "import") refl)
 
 abbrev pub all_codes : List (String Global) → Bool
 all_codes names = list_all (λ name. is_fault_code (string_bytes name)) names
@@ -112,7 +117,7 @@ no_pages rows names given none (Explain other) h =
 
 pub no_check : (rows : List Row) → first_of (codes "file") rows ≡ None → AsksNone (codes "check") rows
 no_check rows none = by_subcommand (codes "check") rows (λ _ file warns h. let some = h.1 in cc) (apart (codes "check") (codes "causes") refl) (apart (codes "check") (codes "show") refl)
-    (apart (codes "check") (codes "sim") refl) (apart (codes "check") (codes "uses") refl) (apart (codes "check") (codes "never") refl) (apart (codes "check") (codes "import") refl)
+    (apart (codes "check") (codes "sim") refl) (apart (codes "check") (codes "uses") refl) (apart (codes "check") (codes "never") refl) (apart (codes "check") (codes "reach") refl) (apart (codes "check") (codes "import") refl)
 
 pub only_causes : (rows : List Row)
     → ((list : ListRequest) (after upto : Option ℕ) → NamesCauses rows list after upto → ⊥)
@@ -124,7 +129,7 @@ pub only_causes : (rows : List Row)
 only_causes rows causes held groups possible relevant =
     by_subcommand (codes "causes") rows (apart (codes "causes") (codes "check") refl)
     (λ _. ((λ list after upto h. causes list after upto h.1), (λ list after upto h. causes list after upto h.1), held, groups, possible, relevant))
-    (apart (codes "causes") (codes "show") refl) (apart (codes "causes") (codes "sim") refl) (apart (codes "causes") (codes "uses") refl) (apart (codes "causes") (codes "never") refl) (apart (codes "causes") (codes "import") refl)
+    (apart (codes "causes") (codes "show") refl) (apart (codes "causes") (codes "sim") refl) (apart (codes "causes") (codes "uses") refl) (apart (codes "causes") (codes "never") refl) (apart (codes "causes") (codes "reach") refl) (apart (codes "causes") (codes "import") refl)
 
 -- What some state switches on is asked for by a flag, and the other lists without it.
 only_possible : (rows : List Row) → HasFlag (codes "any") rows → ((r : PossibleRequest) → Asks (codes "causes") rows (Possible r) → ⊥)
@@ -151,7 +156,7 @@ pub only_show : (rows : List Row)
     → AsksNone (codes "show") rows
 only_show rows show film =
     by_subcommand (codes "show") rows (apart (codes "show") (codes "check") refl) (apart (codes "show") (codes "causes") refl) (λ _. (show, film))
-    (apart (codes "show") (codes "sim") refl) (apart (codes "show") (codes "uses") refl) (apart (codes "show") (codes "never") refl) (apart (codes "show") (codes "import") refl)
+    (apart (codes "show") (codes "sim") refl) (apart (codes "show") (codes "uses") refl) (apart (codes "show") (codes "never") refl) (apart (codes "show") (codes "reach") refl) (apart (codes "show") (codes "import") refl)
 
 pub only_sim : (rows : List Row)
     → ((r : SimRequest) → Asks (codes "sim") rows (Sim r) → ⊥)
@@ -160,19 +165,19 @@ pub only_sim : (rows : List Row)
     → AsksNone (codes "sim") rows
 only_sim rows sim watch waves =
     by_subcommand (codes "sim") rows (apart (codes "sim") (codes "check") refl) (apart (codes "sim") (codes "causes") refl) (apart (codes "sim") (codes "show") refl)
-    (λ _. (sim, watch, waves)) (apart (codes "sim") (codes "uses") refl) (apart (codes "sim") (codes "never") refl) (apart (codes "sim") (codes "import") refl)
+    (λ _. (sim, watch, waves)) (apart (codes "sim") (codes "uses") refl) (apart (codes "sim") (codes "never") refl) (apart (codes "sim") (codes "reach") refl) (apart (codes "sim") (codes "import") refl)
 
 pub no_uses : (rows : List Row) → first_of (codes "file") rows ≡ None → AsksNone (codes "uses") rows
 no_uses rows none =
     by_subcommand (codes "uses") rows (apart (codes "uses") (codes "check") refl) (apart (codes "uses") (codes "causes") refl) (apart (codes "uses") (codes "show") refl) (apart (codes "uses") (codes "sim") refl)
-    (λ _ file h. let some = h.1 in cc) (apart (codes "uses") (codes "never") refl) (apart (codes "uses") (codes "import") refl)
+    (λ _ file h. let some = h.1 in cc) (apart (codes "uses") (codes "never") refl) (apart (codes "uses") (codes "reach") refl) (apart (codes "uses") (codes "import") refl)
 
 only_import : (rows : List Row)
     → ((opened control_on : Bool) (file : String Global) (hal : Option (String Global)) → Asks (codes "import") rows (Import opened control_on file hal) → ⊥)
     → AsksNone (codes "import") rows
 only_import rows import =
     by_subcommand (codes "import") rows (apart (codes "import") (codes "check") refl) (apart (codes "import") (codes "causes") refl) (apart (codes "import") (codes "show") refl)
-    (apart (codes "import") (codes "sim") refl) (apart (codes "import") (codes "uses") refl) (apart (codes "import") (codes "never") refl) (λ _. import)
+    (apart (codes "import") (codes "sim") refl) (apart (codes "import") (codes "uses") refl) (apart (codes "import") (codes "never") refl) (apart (codes "import") (codes "reach") refl) (λ _. import)
 
 pub no_import : (rows : List Row) → first_of (codes "file") rows ≡ None → AsksNone (codes "import") rows
 no_import rows none = only_import rows (λ opened control_on file hal h. let some = h.3 in cc)
@@ -190,7 +195,7 @@ pub only_never : (rows : List Row)
     → AsksNone (codes "never") rows
 only_never rows never =
     by_subcommand (codes "never") rows (apart (codes "never") (codes "check") refl) (apart (codes "never") (codes "causes") refl) (apart (codes "never") (codes "show") refl)
-    (apart (codes "never") (codes "sim") refl) (apart (codes "never") (codes "uses") refl) (λ _. never) (apart (codes "never") (codes "import") refl)
+    (apart (codes "never") (codes "sim") refl) (apart (codes "never") (codes "uses") refl) (λ _. never) (apart (codes "never") (codes "reach") refl) (apart (codes "never") (codes "import") refl)
 
 lasts : (rows : List Row) (scans every : ℕ) → HasScans scans every rows → (o : Option Lasting) × MayLast o rows
 lasts rows scans every (inl h) = (Some (Count scans), h)
@@ -442,6 +447,42 @@ no_excluded rows none = only_never rows (λ r h. none r.excluded h.2)
 
 pub no_never : (rows : List Row) → first_of (codes "file") rows ≡ None → AsksNone (codes "never") rows
 no_never rows none = only_never rows (λ r h. let some = h.3 in cc)
+
+-- a run that switches something on
+only_reach : (rows : List Row)
+    → ((r : ReachRequest) → Asks (codes "reach") rows (Reach r) → ⊥)
+    → AsksNone (codes "reach") rows
+only_reach rows reach =
+    by_subcommand (codes "reach") rows (apart (codes "reach") (codes "check") refl) (apart (codes "reach") (codes "causes") refl) (apart (codes "reach") (codes "show") refl)
+    (apart (codes "reach") (codes "sim") refl) (apart (codes "reach") (codes "uses") refl) (apart (codes "reach") (codes "never") refl) (λ _. reach) (apart (codes "reach") (codes "import") refl)
+
+pub no_reach_of_moment : (rows : List Row) → ((o : Option ℕ) → HasNumber (codes "at") rows o → ⊥) → AsksNone (codes "reach") rows
+no_reach_of_moment rows none = only_reach rows (λ r h. none r.moment h.2)
+
+pub no_reach_of_pace : (rows : List Row) → ((p : Pace) → HasPace p rows → ⊥) → AsksNone (codes "reach") rows
+no_reach_of_pace rows none = only_reach rows (λ r h. none r.pace h.3)
+
+pub no_reach_of_states : (rows : List Row) → ((o : Option ℕ) → HasNumber (codes "states") rows o → ⊥) → AsksNone (codes "reach") rows
+no_reach_of_states rows none = only_reach rows (λ r h. none r.states h.4)
+
+pub no_reach_of_file : (rows : List Row) → first_of (codes "file") rows ≡ None → AsksNone (codes "reach") rows
+no_reach_of_file rows none = only_reach rows (λ r h. let some = h.6 in cc)
+
+pub no_reach_of_name : (rows : List Row) → first_of (codes "name") rows ≡ None → AsksNone (codes "reach") rows
+no_reach_of_name rows none = only_reach rows (λ r h. let some = h.7 in cc)
+
+-- the options that say when its scans are
+pub no_pace_of_every : (rows : List Row) → ((o : Option ℕ) → HasNumber (codes "every") rows o → ⊥) → (p : Pace) → HasPace p rows → ⊥
+no_pace_of_every rows none (AnyMoments gap) h = none None h.0
+no_pace_of_every rows none (Every every scans) h = none (Some every) h.0
+
+pub no_pace_of_scans : (rows : List Row) → ((o : Option ℕ) → HasNumber (codes "scans") rows o → ⊥) → (p : Pace) → HasPace p rows → ⊥
+no_pace_of_scans rows none (AnyMoments gap) h = none None h.1
+no_pace_of_scans rows none (Every every scans) h = none scans h.1
+
+pub no_pace_of_gap : (rows : List Row) → ((o : Option ℕ) → HasNumber (codes "gap") rows o → ⊥) → (p : Pace) → HasPace p rows → ⊥
+no_pace_of_gap rows none (AnyMoments gap) h = none gap h.2
+no_pace_of_gap rows none (Every every scans) h = none None h.2
 
 -- the values of an option that was not given
 no_first : (vs : List Text) → slice_get vs 0 ≡ None → vs ≡ []

@@ -17,10 +17,12 @@ use Rattle.cli_arguments.specs.declared.request.InputOrder.{InputOrder}
 use Rattle.cli_arguments.specs.declared.request.InputOrder.TheVariants.{Given, Sifted}
 use Rattle.cli_arguments.specs.declared.request.Medium.{Medium}
 use Rattle.cli_arguments.specs.declared.request.Medium.TheVariants as medium
+use Rattle.cli_arguments.specs.declared.request.Pace.{Pace}
+use Rattle.cli_arguments.specs.declared.request.Pace.TheVariants.{AnyMoments, Every}
 use Rattle.cli_arguments.specs.declared.request.CommandLine.{CommandLine}
 use Rattle.cli_arguments.specs.declared.request.ListRequest.{ListRequest}
 use Rattle.cli_arguments.specs.declared.request.Request.{Request}
-use Rattle.cli_arguments.specs.declared.request.Request.TheVariants.{Causes, Check, Film, Groups, Held, Import, Never, Possible, Progress, Relevant, Show, Sim, Uses, Watch, Waves}
+use Rattle.cli_arguments.specs.declared.request.Request.TheVariants.{Causes, Check, Film, Groups, Held, Import, Never, Possible, Progress, Reach, Relevant, Show, Sim, Uses, Watch, Waves}
 use Rattle.cli_arguments.specs.declared.request.SimRequest.{SimRequest}
 use Rattle.cli_arguments.specs.declared.request.Task.{Task}
 use Rattle.cli_arguments.specs.declared.request.Task.TheVariants.{Explain, Perform, PerformAll}
@@ -183,6 +185,11 @@ MayGroup rows limit after (Some g) = HasFlag (codes "grouped") rows
     × HasNumber (codes "after") rows after
     × MayHaveLimit g.form limit
 
+-- when the scans of a run are: at any moments, or in a rhythm, and then of at most so many scans
+abbrev pub HasPace : Pace → List Row → Type 0
+HasPace (AnyMoments gap) rows = HasNumber (codes "every") rows None × HasNumber (codes "scans") rows None × HasNumber (codes "gap") rows gap
+HasPace (Every every scans) rows = HasNumber (codes "every") rows (Some every) × HasNumber (codes "scans") rows scans × HasNumber (codes "gap") rows None
+
 -- the request is what the subcommand's name and values say
 abbrev pub Asks : Text → List Row → Request → Type 0
 Asks name rows (Check file warns) = (name ≡ codes "check") × HasText (codes "file") rows (string_bytes file) × HasSwitch (codes "warn") rows warns
@@ -251,6 +258,15 @@ Asks name rows (Never r) = (name ≡ codes "never")
     × HasExcluded r.excluded rows
     × HasSwitch (codes "quiet") rows r.quiet
     × HasText (codes "file") rows (string_bytes r.file)
+Asks name rows (Reach r) = (name ≡ codes "reach")
+    × HasOption (codes "state") rows (option_map string_bytes r.state)
+    × HasNumber (codes "at") rows r.moment
+    × HasPace r.pace rows
+    × HasNumber (codes "states") rows r.states
+    × HasOption (codes "both") rows (option_map string_bytes r.both)
+    × HasText (codes "file") rows (string_bytes r.file)
+    × HasText (codes "name") rows (string_bytes r.name)
+    × (unwrap_or (all_of (codes "inputs") rows) [] ≡ map string_bytes r.inputs.items)
 Asks name rows (Show r) = (name ≡ codes "show")
     × HasOption (codes "stimulus") rows None
     × HasOption (codes "state") rows (option_map string_bytes r.state)

@@ -6,6 +6,7 @@ mod found;
 mod grouping;
 mod lasting;
 mod parts;
+mod reaching;
 mod request;
 mod showing;
 mod simulating;
@@ -13,7 +14,7 @@ mod words;
 
 pub use request::{
     AllCoils, CommandLine, Excluded, FilmRequest, GroupFormat, Grouping, InputOrder, ListRequest,
-    Medium, NeverRequest, PossibleRequest, Request, ShowRequest, SimRequest, Task, WatchRequest,
-    WavesRequest, WordFault,
+    Medium, NeverRequest, Pace, PossibleRequest, ReachRequest, Request, ShowRequest, SimRequest,
+    Task, WatchRequest, WavesRequest, WordFault,
 };
 pub use words::read_words;

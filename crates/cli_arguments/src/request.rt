@@ -187,6 +187,44 @@ pub struct WavesRequest {
     pub stimulus: String,
 }
 
+/// When the scans of a run are.
+#[derive(Clone, Copy, Debug, PartialEq, Eq)]
+pub enum Pace {
+    /// At any moments that don't fall.
+    AnyMoments {
+        /// How far apart they are where they can be, in ms, where it is said.
+        gap: Option<u64>,
+    },
+    /// In a rhythm.
+    Every {
+        /// The time from each scan to the next, in ms.
+        every: u64,
+        /// How many scans there are at most, where it is said.
+        scans: Option<u64>,
+    },
+}
+
+/// What a request for a run names that switches something on.
+#[derive(Drop)]
+pub struct ReachRequest {
+    /// The file of the state in which the first scan begins; the fresh one where there is none.
+    pub state: Option<String>,
+    /// The moment from which on the scans are, in ms; the stored one where there is none.
+    pub moment: Option<u64>,
+    /// When the scans are.
+    pub pace: Pace,
+    /// How many states the search keeps at most, where it is said.
+    pub states: Option<u64>,
+    /// The name of what is to be ON too, where there is one.
+    pub both: Option<String>,
+    /// The file of the program text.
+    pub file: String,
+    /// The name of the variable, or of the output of an instance, that is to come ON.
+    pub name: String,
+    /// The names of the inputs that change; all do where none is named.
+    pub inputs: Vec<String>,
+}
+
 /// What the arguments ask for.
 #[derive(Drop)]
 pub enum Request {
@@ -256,6 +294,8 @@ pub enum Request {
     },
     /// What never changes from a state on.
     Never(NeverRequest),
+    /// A run that switches something on, or that there is none.
+    Reach(ReachRequest),
     /// The program text of a ClassicLadder project.
     Import {
         /// Whether numbers and sequential charts are opened.

@@ -12,6 +12,7 @@ ghost use Rattle.cli_arguments.specs.Faults.{IsFaultOf, SaysOf, UsageWhere};
 use crate::causes::causes_request;
 use crate::found::{is_set, optional, text, texts};
 use crate::parts::{Sources, sources_of};
+use crate::reaching::reach_request;
 use crate::request::{AllCoils, CommandLine, Excluded, NeverRequest, Request, Task, WordFault};
 use crate::showing::show_request;
 use crate::simulating::sim_request;
@@ -26,7 +27,7 @@ use std::alloc::Global;
 ///
 /// `Mistake` where `clap` finds a fault other than that help is asked for, with what it says of it, or `Usage` when there is no memory for that; `Usage` where a fault has none of the named codes, where groups of one scan or a list over several scans are to begin after a
 /// number, to end at one or to tell how far they are, where a list over the inputs that matter is to end at a number or to tell how far it is, where a time between scans is asked for without several scans, several scans by their number and by a time, where a form or the order `auto` is asked for without groups of one scan in one state, or both forms, or a statement with a limit, or an order that has another name, where
-/// neither a coil is named nor each meant, where inputs are named beside all of them, where those that matter are asked for and others are listed, or several scans or any state are asked of, where any state is asked of and a state, a moment, a number to begin after or to end at, lines of how far the list is, several scans, a time between scans, a form or the order `auto` is named as well, where it is said which states count, or how long a search is, and any state isn't asked of, where a stimulus is to be shown with a moment, a number or listed inputs, or a waveform to be written with a saved state or with what is watched, where names are watched beside all of them, where the control input of timers is to be anything but `on`, and nowhere else; `Help` with its text where help is asked for; `Memory` when out of memory.
+/// neither a coil is named nor each meant, where inputs are named beside all of them, where those that matter are asked for and others are listed, or several scans or any state are asked of, where any state is asked of and a state, a moment, a number to begin after or to end at, lines of how far the list is, several scans, a time between scans, a form or the order `auto` is named as well, where it is said which states count, or how long a search is, and any state isn't asked of, where a stimulus is to be shown with a moment, a number or listed inputs, or a waveform to be written with a saved state or with what is watched, where names are watched beside all of them, where the scans of a run are limited in number without a time between them, or a gap is named beside that time, where the control input of timers is to be anything but `on`, and nowhere else; `Help` with its text where help is asked for; `Memory` when out of memory.
 pub fn read_words(alloc: Global, words: Vec<String>) -> Result<Task, WordFault>
     ensures asks { IfOk result (AsksBy ladder_app (map string_bytes words.items)) }
 
@@ -148,6 +149,7 @@ fn request_of(alloc: Global, name: &str, found: &ArgMatches<'_>) -> Result<Reque
         "check" => check_request(alloc, found),
         "uses" => uses_request(alloc, found),
         "never" => never_request(alloc, found),
+        "reach" => reach_request(alloc, found),
         "causes" => causes_request(alloc, found),
         "show" => show_request(alloc, found),
         "sim" => sim_request(alloc, found),

@@ -34,6 +34,7 @@ sentence (fault.State (state.BadRow row)) = codes "X2: the record is none of a s
 sentence (fault.State state.Memory) = codes "X7: out of memory"
 sentence (fault.Word number) = codes "X3: the word names no variable; COIL is word 1, and the first INPUT the next one"
 sentence (fault.Watched number) = codes "X3: the name is that of no variable and no instance; names that are watched are counted from 1"
+sentence fault.Both = codes "X3: the name of --both is that of no variable and of no block"
 -- the records of a simulation are counted from 1, the header included
 sentence (fault.Sim (sim.BadRow row)) = codes "X2: the record isn't a moment with a 0 or 1 for each name of the header, which is record 1"
 sentence (fault.Sim (sim.UnknownName row)) = codes "X3: a name of the header isn't an input of this program"

@@ -53,6 +53,7 @@ fault_line (fault.Read k read.TooLong) = codes "fault X5 " ++ (kind_word k ++ co
 fault_line (fault.State (state.BadRow row)) = numbered (codes "fault X2 state row ") row
 fault_line (fault.Word number) = numbered (codes "fault X3 word ") number
 fault_line (fault.Watched number) = numbered (codes "fault X3 watch ") number
+fault_line fault.Both = codes "fault X3 both\n"
 fault_line (fault.Sim (sim.BadRow row)) = numbered (codes "fault X2 stimulus row ") row
 fault_line (fault.Sim (sim.UnknownName row)) = numbered (codes "fault X3 row ") row
 fault_line (fault.Sim (sim.MomentBack row)) = numbered (codes "fault X4 row ") row

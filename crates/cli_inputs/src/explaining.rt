@@ -32,6 +32,7 @@ fn sentence(fault: ToolFault) -> &'static [u8]
         ToolFault::Watched { .. } => {
             b"X3: the name is that of no variable and no instance; names that are watched are counted from 1"
         }
+        ToolFault::Both => { b"X3: the name of --both is that of no variable and of no block" }
         ToolFault::Sim(SimFault::BadRow { .. }) => {
             b"X2: the record isn't a moment with a 0 or 1 for each name of the header, which is record 1"
         }

@@ -51,6 +51,9 @@ pub enum ToolFault {
     /// What is watched isn't declared; the names that are watched are counted from 1.
     #[error("name {number} of what is watched is not declared")]
     Watched { number: usize },
+    /// The second name of a pair that is to be ON names neither a variable nor the output of an instance.
+    #[error("the second name names nothing that can be ON")]
+    Both,
     /// A simulation ended before the end of its stimulus.
     #[error("{0}")]
     Sim(SimFault),
@@ -94,6 +97,7 @@ pub fn write_fault<W: Sink>(fault: &ToolFault, writer: &mut W) -> Result<(), Wri
         ToolFault::State(StateFault::Memory) => put(writer, b"fault X7\n"),
         ToolFault::Word { number } => write_numbered(b"fault X3 word ", number as u64, writer),
         ToolFault::Watched { number } => write_numbered(b"fault X3 watch ", number as u64, writer),
+        ToolFault::Both => put(writer, b"fault X3 both\n"),
         ToolFault::Sim(fault) => write_sim_fault(fault, writer),
         ToolFault::Write => put(writer, b"fault X6\n"),
         ToolFault::Memory => put(writer, b"fault X7\n"),

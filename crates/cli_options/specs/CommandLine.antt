@@ -4,6 +4,7 @@
 -- each with `--all-coils FOLDER` in place of COIL,
 -- `ladder show [--state STATE] [--at MS] [--number N] [--stimulus STIMULUS] [--html] [--coil COIL] [--all-inputs] FILE [INPUT]...`,
 -- `ladder sim [--state STATE] [--save STATE] [--every MS] [--watch NAME]... [--watch-all] [--vcd] FILE STIMULUS`, `ladder uses FILE` and `ladder never [--state STATE] [--off] [--pairs] [--quiet] FILE`, each with `[--aliases] [--why]`;
+-- `ladder reach [--state STATE] [--at MS] [--every MS] [--scans N] [--states N] [--both NAME] [--gap MS] [--why] FILE NAME [INPUT]...`;
 -- `ladder import [--open] [--control on] [--hal FILE] [--why] PROJECT`;
 -- and `ladder explain [CODE]...`.
 use Rattle.std.specs.Prelude.{◌≡◌, List, Some, [], ◌∷◌, codes, true, false}
@@ -63,6 +64,12 @@ uses_app = taking (codes "uses") (flag_rule (codes "aliases") ∷ flag_rule (cod
 abbrev pub never_app : App
 never_app = taking (codes "never") (text_rule (codes "state") ∷ flag_rule (codes "off") ∷ flag_rule (codes "pairs") ∷ flag_rule (codes "quiet") ∷ flag_rule (codes "aliases") ∷ flag_rule (codes "why") ∷ place_rule (codes "file") ∷ [])
 
+abbrev pub reach_app : App
+reach_app = taking (codes "reach") (
+    text_rule (codes "state") ∷ number_rule (codes "at") ∷ positive_rule (codes "every") ∷ positive_rule (codes "scans") ∷ small_rule (codes "states")
+    ∷ text_rule (codes "both") ∷ number_rule (codes "gap") ∷ flag_rule (codes "why") ∷ place_rule (codes "file") ∷ place_rule (codes "name") ∷ list_rule (codes "inputs") ∷ []
+    )
+
 abbrev pub causes_app : App
 causes_app = taking (codes "causes") (
     text_rule (codes "state") ∷ number_rule (codes "at") ∷ number_rule (codes "after") ∷ number_rule (codes "upto") ∷ number_rule (codes "limit")
@@ -93,7 +100,7 @@ explain_app = taking (codes "explain") (list_rule (codes "codes") ∷ [])
 abbrev pub ladder_app : App
 ladder_app = record {
   top = record (new_shape (codes "ladder")) { is_leaf = false; subcommand_required = true };
-  subs = check_app.top ∷ causes_app.top ∷ show_app.top ∷ sim_app.top ∷ uses_app.top ∷ never_app.top ∷ import_app.top ∷ explain_app.top ∷ [];
+  subs = check_app.top ∷ causes_app.top ∷ show_app.top ∷ sim_app.top ∷ uses_app.top ∷ never_app.top ∷ reach_app.top ∷ import_app.top ∷ explain_app.top ∷ [];
 }
 
 -- a command with no argument that is common to all subcommands, which clap reads as this

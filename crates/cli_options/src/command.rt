@@ -11,9 +11,11 @@ use crate::help::{
     FAULTS, FILE_HELP, FILM_HELP, FOR_HELP, GROUPED_HELP, HAL_HELP, HOLD_HELP, HTML_HELP,
     IMPORT_ABOUT, INPUTS_HELP, LADDER_ABOUT, LIMIT_HELP, LOOKS_HELP, MUST_HELP, NEVER_ABOUT,
     NEVER_OFF_HELP, NUMBER_HELP, OFF_HELP, OPEN_HELP, ORDER_HELP, PAIRS_HELP, PROGRESS_HELP,
-    PROJECT_HELP, QUIET_HELP, REACHABLE_HELP, RELEVANT_HELP, SAVE_HELP, SCANS_HELP, SHOW_ABOUT,
-    SHOWN_HELP, SIM_ABOUT, STATE_HELP, STATEMENT_HELP, STIMULUS_HELP, TERMS_HELP, UPTO_HELP,
-    USES_ABOUT, WARN_HELP, WATCH_ALL_HELP, WATCH_HELP, WAVES_HELP, WHY_HELP,
+    PROJECT_HELP, QUIET_HELP, REACH_ABOUT, REACH_AT_HELP, REACH_BOTH_HELP, REACH_EVERY_HELP,
+    REACH_GAP_HELP, REACH_INPUTS_HELP, REACH_NAME_HELP, REACH_SCANS_HELP, REACH_STATES_HELP,
+    REACHABLE_HELP, RELEVANT_HELP, SAVE_HELP, SCANS_HELP, SHOW_ABOUT, SHOWN_HELP, SIM_ABOUT,
+    STATE_HELP, STATEMENT_HELP, STIMULUS_HELP, TERMS_HELP, UPTO_HELP, USES_ABOUT, WARN_HELP,
+    WATCH_ALL_HELP, WATCH_HELP, WAVES_HELP, WHY_HELP,
 };
 use clap::{Arg, ArgAction, Command, value_parser};
 use std::alloc::{AllocError, Global};
@@ -68,6 +70,20 @@ const NEVER: &[Word] = &[
     Word::Flag("aliases", ALIASES_HELP),
     Word::Flag("why", EXPLAIN_HELP),
     Word::Place("file", "FILE", FILE_HELP),
+];
+
+const REACH: &[Word] = &[
+    Word::Text("state", "STATE", STATE_HELP),
+    Word::Number("at", "MS", REACH_AT_HELP),
+    Word::Positive("every", "MS", REACH_EVERY_HELP),
+    Word::Positive("scans", "N", REACH_SCANS_HELP),
+    Word::Small("states", "N", REACH_STATES_HELP),
+    Word::Text("both", "NAME", REACH_BOTH_HELP),
+    Word::Number("gap", "MS", REACH_GAP_HELP),
+    Word::Flag("why", EXPLAIN_HELP),
+    Word::Place("file", "FILE", FILE_HELP),
+    Word::Place("name", "NAME", REACH_NAME_HELP),
+    Word::List("inputs", "INPUT", REACH_INPUTS_HELP),
 ];
 
 const CAUSES: &[Word] = &[
@@ -171,6 +187,11 @@ const OTHER_SUBCOMMANDS: &[Subcommand] = &[
         name: "never",
         about: NEVER_ABOUT,
         words: NEVER,
+    },
+    Subcommand {
+        name: "reach",
+        about: REACH_ABOUT,
+        words: REACH,
     },
     Subcommand {
         name: "import",

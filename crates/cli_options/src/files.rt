@@ -55,13 +55,15 @@ rows 2 looks 1
 pub(crate) const X3: &str = "\
 X3: an argument is no name of a variable, or no input in a stimulus
 
-On the command line COIL is word 1, the first INPUT word 2, also for `show --coil COIL`, with `--stimulus` too; in `show` without it the first INPUT is word 1. In the header of a stimulus (row 1) each name must be an input. A name of `sim --watch` must be that of a variable or of a block, without `.Q`; the first one is watch 1.
+On the command line COIL is word 1, the first INPUT word 2, also for `show --coil COIL`, with `--stimulus` too; in `show` without it the first INPUT is word 1. Of `reach` NAME is word 1, the name of `--both` is `both`, and the first INPUT word 2; NAME and that of `--both` may be of a block too, with its output behind it (`T1.Q`, of a bistable `B1.Q1`) or without. In the header of a stimulus (row 1) each name must be an input. A name of `sim --watch` must be that of a variable or of a block, without `.Q`; the first one is watch 1.
 
 ```console
 $ ladder causes motor.ld Moter Start Stop
 fault X3 word 1
 $ ladder show motor.ld Start Stopp
 fault X3 word 2
+$ ladder reach motor.ld Motor --both Lampp Start
+fault X3 both
 $ cat lamp.csv
 moment,Lamp
 0,1
@@ -158,5 +160,5 @@ rows 1 looks 1
 pub(crate) const X7: &str = "\
 X7: out of memory
 
-The system refused memory while the arguments, a file, a state or a stimulus were read, the fresh state was made, or a drawing was marked. No text has this fault.
+The system refused memory while the arguments, a file, a state or a stimulus were read, the fresh state was made, a drawing was marked, or a run was looked for. A search for a run keeps what it finds of states, so `--states` with a smaller number may help. No text has this fault.
 ";

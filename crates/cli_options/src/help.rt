@@ -39,6 +39,33 @@ pub(crate) const NEVER_ABOUT: &str =
 pub(crate) const NEVER_OFF_HELP: &str =
     "Lists the variables and outputs of blocks that are ON and can never go OFF, in place of what can never come ON";
 
+pub(crate) const REACH_ABOUT: &str =
+    "Writes a run that switches NAME on, as a stimulus for `sim` and `show`, or says that there is none";
+
+pub(crate) const REACH_AT_HELP: &str =
+    "The moment from which on the scans are, in ms; without it the stored one";
+
+pub(crate) const REACH_EVERY_HELP: &str =
+    "One scan every MS ms, from 1 on; without it the scans are at any moments that don't fall, so a run need not exist in the rhythm of a controller";
+
+pub(crate) const REACH_SCANS_HELP: &str =
+    "With --every: looks for runs of at most N scans, from 1 on; without it their number is free";
+
+pub(crate) const REACH_STATES_HELP: &str =
+    "How many states the search keeps at most, up to 4294967295; without it 100000. Where they don't suffice the answer is `unsettled`";
+
+pub(crate) const REACH_BOTH_HELP: &str =
+    "Looks for NAME and this one both ON after the same scan; named as NAME is";
+
+pub(crate) const REACH_GAP_HELP: &str =
+    "How far apart the scans are where they can be, in ms; without it 10; not with --every";
+
+pub(crate) const REACH_NAME_HELP: &str =
+    "What is to come ON: a variable that a coil writes, or the output of a block (T1.Q), in any letter case";
+
+pub(crate) const REACH_INPUTS_HELP: &str =
+    "Inputs that change; the others keep what the state stores. Without one all inputs change";
+
 pub(crate) const IMPORT_ABOUT: &str =
     "Writes the program text of a ClassicLadder project, or says what of it can't be carried over";
 

@@ -3,10 +3,12 @@
 pub(crate) const C1: &str = "\
 C1: the moment is before the stored one
 
-`--at` is a moment in ms on the same clock as the state's; the record `moment` of the state is the earliest. It is the same for `show`.
+`--at` is a moment in ms on the same clock as the state's; the record `moment` of the state is the earliest. It is the same for `show` and `reach`.
 
 ```console
 $ ladder causes --state state.csv --at 499 motor.ld Motor Start Stop
+fault C1
+$ ladder reach --state state.csv --at 499 motor.ld Motor
 fault C1
 ```
 
@@ -24,10 +26,12 @@ rows 2 looks 1
 pub(crate) const C2: &str = "\
 C2: no coil writes this variable
 
-It is declared, but no coil writes it. `uses` tells where it is drawn.
+It is declared, but no coil writes it. `uses` tells where it is drawn. Of `reach` it is NAME or the name of `--both`; a block, as `T1` or `T1.Q`, needs no coil.
 
 ```console
 $ ladder causes motor.ld Lamp Start Stop
+fault C2
+$ ladder reach motor.ld Motor --both Lamp
 fault C2
 ```
 
@@ -51,7 +55,7 @@ rows 1 looks 1
 pub(crate) const C3: &str = "\
 C3: too many inputs are listed
 
-A list has at most 32 inputs, and so has `show`; groups over several scans and those of `--any` have at most 20. Leave out those that can't matter, or fix some in state texts (`docs/user/tutorial.md`).
+A list has at most 32 inputs, and so has `show`; groups over several scans and those of `--any` have at most 20. A run (`reach`) has no such limit. Leave out those that can't matter, or fix some in state texts (`docs/user/tutorial.md`).
 
 ```console
 $ { echo VAR; seq 33 | sed 's/.*/  I& AT %IX& : BOOL;/'; echo '  Y AT %QX0 : BOOL;'; echo END_VAR; echo; echo '|     I1          Y'; echo '|----| |---------( )----'; } > c3.ld
@@ -70,7 +74,7 @@ rows 0 looks 0
 pub(crate) const C4: &str = "\
 C4: a listed variable is no input
 
-Only variables with an address `%I..` can be listed. An output or a memory variable has the value that the state stores: change it there.
+Only variables with an address `%I..` can be listed, also for `show` and `reach`. An output or a memory variable has the value that the state stores: change it there.
 
 ```console
 $ ladder causes motor.ld Motor Start Motor
@@ -89,6 +93,8 @@ rows 1 looks 1
 
 pub(crate) const C5: &str = "\
 C5: an input is listed twice
+
+It is the same for `show` and `reach`.
 
 ```console
 $ ladder causes motor.ld Motor Start Start

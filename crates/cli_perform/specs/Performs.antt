@@ -12,19 +12,22 @@ use Rattle.cli_inputs.specs.Reports.{IsReported, Logs, Refuses}
 use Rattle.clp_project.specs.declared.reading.ReadingOptions.{ReadingOptions}
 use Rattle.cli_import.specs.Carrying.{BreaksCarrying, Carries}
 use Rattle.cli_lists.specs.Lists.{BreaksGroups, BreaksHeldBy, BreaksList, BreaksNever, BreaksPossible, BreaksProgress, BreaksRelevant, CountsGroups, CountsHeldBy, CountsList, CountsNever, CountsPossible, CountsProgress, CountsRelevant, HasHeldFaultBy, HasListFault, HasNeverFault, HasPossibleFault, HasRelevantFault, after_for, scans_of}
+use Rattle.cli_reach.specs.Asking.{HasReachFault}
+use Rattle.cli_reach.specs.Reaching.{BreaksReach, TellsFound}
 use Rattle.cli_views.specs.Views.{BreaksFilm, BreaksTrace, BreaksWatch, BreaksWaves, Checks, HasFilmFault, HasShowFault, HasWatchFault, IsFilmed, IsTraced, IsWatched, IsWaved, Prints, Shows}
 
 -- how the project of an import is read
 abbrev pub reading_of : Bool → Bool → ReadingOptions
 reading_of opened control_on = record { opened = opened; control_on = control_on }
 
--- Status 0. Only a simulation writes on `save`, and only a list on `err`.
+-- Status 0. Only a simulation writes on `save`, and only a list or a search for a run on `err`.
 abbrev pub IsDone : Request → Given → Logs → Logs → Type 0
 IsDone (Check file warns) g old new = Checks warns g (PutsAll old.out new.out) × (new.save ≡ old.save) × (new.err ≡ old.err)
 IsDone (Causes list after upto) g old new = CountsList g list after upto old.out new.out (PutsAll old.err new.err) × (new.save ≡ old.save)
 IsDone (request.Progress list after upto) g old new = CountsProgress g list after upto old new × (new.save ≡ old.save)
 IsDone (Held list scans every grouped) g old new = CountsHeldBy grouped g list (scans_of scans every) old.out new.out (PutsAll old.err new.err) × (new.save ≡ old.save)
 IsDone (request.Never r) g old new = CountsNever r.excluded g r old.out new.out (PutsAll old.err new.err) × (new.save ≡ old.save)
+IsDone (request.Reach r) g old new = TellsFound g r old.out new.out (PutsAll old.err new.err) × (new.save ≡ old.save)
 IsDone (request.Possible r) g old new = CountsPossible g r old.out new.out (PutsAll old.err new.err) × (new.save ≡ old.save)
 IsDone (Groups list grouping) g old new = CountsGroups g list grouping old.out new.out (PutsAll old.err new.err) × (new.save ≡ old.save)
 IsDone (request.Relevant list after grouping) g old new = CountsRelevant g list after grouping old.out new.out (PutsAll old.err new.err) × (new.save ≡ old.save)
@@ -43,6 +46,7 @@ HasFault (Causes list after upto) g = HasListFault g list after upto
 HasFault (request.Progress list after upto) g = HasListFault g list after upto
 HasFault (Held list scans every grouped) g = HasHeldFaultBy grouped g list (scans_of scans every)
 HasFault (request.Never r) g = HasNeverFault g
+HasFault (request.Reach r) g = HasReachFault g r
 HasFault (request.Possible r) g = HasPossibleFault g r
 HasFault (Groups list grouping) g = HasListFault g list None None
 HasFault (request.Relevant list after grouping) g = HasRelevantFault g list (after_for after grouping)
@@ -62,6 +66,7 @@ Breaks (Causes list after upto) g old new = BreaksList g list after upto old new
 Breaks (request.Progress list after upto) g old new = BreaksProgress g list after upto old new × (new.save ≡ old.save)
 Breaks (Held list scans every grouped) g old new = BreaksHeldBy grouped g list (scans_of scans every) old new × (new.save ≡ old.save)
 Breaks (request.Never r) g old new = BreaksNever r.excluded g r old new × (new.save ≡ old.save)
+Breaks (request.Reach r) g old new = BreaksReach g r old new × (new.save ≡ old.save)
 Breaks (request.Possible r) g old new = BreaksPossible g r old new × (new.save ≡ old.save)
 Breaks (Groups list grouping) g old new = BreaksGroups g list grouping old new × (new.save ≡ old.save)
 Breaks (request.Relevant list after grouping) g old new = BreaksRelevant g list after grouping old new × (new.save ≡ old.save)

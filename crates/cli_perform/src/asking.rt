@@ -77,6 +77,7 @@ fn check_for(
         Request::Possible(possible) => check_possible(alloc, possible, setting, coil),
         Request::Check { .. }
         | Request::Never(_)
+        | Request::Reach(_)
         | Request::Show(_)
         | Request::Film(_)
         | Request::Sim(_)

@@ -53,6 +53,7 @@ fn form_of(request: &Request) -> GroupFormat {
         | Request::Possible(_)
         | Request::Check { .. }
         | Request::Never(_)
+        | Request::Reach(_)
         | Request::Show(_)
         | Request::Film(_)
         | Request::Sim(_)
@@ -95,6 +96,7 @@ fn state_of(request: &Request) -> Option<&str> {
         Request::Possible(_)
         | Request::Check { .. }
         | Request::Never(_)
+        | Request::Reach(_)
         | Request::Show(_)
         | Request::Film(_)
         | Request::Sim(_)
@@ -116,6 +118,7 @@ fn program_of(request: &Request) -> &str {
         Request::Possible(possible) => possible.file.as_str(),
         Request::Check { .. }
         | Request::Never(_)
+        | Request::Reach(_)
         | Request::Show(_)
         | Request::Film(_)
         | Request::Sim(_)

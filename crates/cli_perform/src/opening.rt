@@ -107,6 +107,7 @@ pub(crate) fn readers_of<'a>(
         | Request::Relevant { list, .. } => from_state(rt, list.file.as_str(), &list.state),
         Request::Possible(possible) => alone(rt, possible.file.as_str()),
         Request::Never(never) => from_state(rt, never.file.as_str(), &never.state),
+        Request::Reach(reach) => from_state(rt, reach.file.as_str(), &reach.state),
         Request::Show(show) => from_state(rt, show.file.as_str(), &show.state),
         Request::Film(film) => {
             simulated(rt, film.file.as_str(), &film.state, film.stimulus.as_str())

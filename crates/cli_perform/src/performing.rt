@@ -13,6 +13,7 @@ use cli_inputs::Texts;
 use cli_lists::{
     list_causes, list_groups, list_held, list_never, list_possible, list_progress, list_relevant,
 };
+use cli_reach::reach;
 use cli_views::{About, film, print, show, trace, watch, wave};
 use clp_project::ReadingOptions;
 use io_text::Sink;
@@ -68,6 +69,7 @@ pub fn perform<O: Sink, S: Sink, E: Sink>(
         }
         Request::Uses { .. } => print(alloc, About::Uses, texts, out, err),
         Request::Never(never) => list_never(alloc, never, texts, out, err),
+        Request::Reach(asked) => reach(alloc, asked, texts, out, err),
         Request::Possible(possible) => list_possible(alloc, possible, texts, out, err),
         Request::Causes { list, after, upto } => {
             list_causes(alloc, list, *after, *upto, texts, out, err)

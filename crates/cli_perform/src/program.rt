@@ -207,6 +207,7 @@ fn saving_of(request: &Request) -> Option<(&str, &SimRequest)> {
         | Request::Groups { .. }
         | Request::Relevant { .. }
         | Request::Never(_)
+        | Request::Reach(_)
         | Request::Possible(_)
         | Request::Show(_)
         | Request::Film(_)

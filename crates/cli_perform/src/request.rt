@@ -18,6 +18,7 @@ pub fn ask_of(request: &mut Request, coil: String)
         Request::Possible(possible) => possible.coil = coil,
         Request::Check { .. }
         | Request::Never(_)
+        | Request::Reach(_)
         | Request::Show(_)
         | Request::Film(_)
         | Request::Sim(_)
@@ -41,6 +42,7 @@ pub fn is_quiet(request: &Request) -> bool
         Request::Possible(possible) => possible.quiet,
         Request::Check { .. }
         | Request::Never(_)
+        | Request::Reach(_)
         | Request::Show(_)
         | Request::Film(_)
         | Request::Sim(_)

@@ -6,9 +6,19 @@ use ladder_causes::Causes;
 use ladder_grid::Program;
 use ladder_scan::{Memory, State};
 use ladder_sim::{CountedWriter, simulate, write_causes, write_state, write_uses};
+use reach_runs::RunScan;
 use std::alloc::Global;
+use text_runs::{write_brief_run, write_run};
 
 const STIMULUS: &[u8] = b"moment,Start,Stop\n0,1,0\n10,0,0\n";
+
+/// The moments and the inputs of a run of the motor.
+const RUN: [(u64, [bool; 2]); 4] = [
+    (0, [true, false]),
+    (10, [false, false]),
+    (20, [false, false]),
+    (30, [false, true]),
+];
 
 /// A call that writes.
 #[derive(Clone, Copy)]
@@ -17,10 +27,12 @@ enum Call {
     Trace,
     Uses,
     State,
+    Run,
+    BriefRun,
 }
 
 /// What each call writes of the motor before its first scan.
-const CALLS: [(Call, &[u8]); 4] = [
+const CALLS: [(Call, &[u8]); 6] = [
     (Call::Causes, b"number,Start,Stop\n2,1,0\n"),
     (Call::Trace, b"moment,Motor\n0,1\n10,1\n"),
     (
@@ -30,6 +42,14 @@ const CALLS: [(Call, &[u8]); 4] = [
     (
         Call::State,
         b"version,2\nmoment,0\nvar,Start,0\nvar,Stop,0\nvar,Motor,0\n",
+    ),
+    (
+        Call::Run,
+        b"moment,Start,Stop\n0,1,0\n10,0,0\n20,0,0\n30,0,1\n",
+    ),
+    (
+        Call::BriefRun,
+        b"moment,Start,Stop\n0,1,0\n10,0,0\n30,0,1\n",
     ),
 ];
 
@@ -65,6 +85,33 @@ fn tells(program: &Program, state: &State, writer: &mut CountedWriter<Narrow>) -
     state.fits(program) && write_state(program, state, writer).is_ok()
 }
 
+/// The run of the motor.
+fn motor_run(alloc: Global) -> Result<Vec<RunScan>, Memory> {
+    let mut run: Vec<RunScan> = Vec::new(alloc);
+    for (moment, values) in RUN {
+        let inputs = Vec::from_slice(alloc, values.as_slice())?;
+        run.push(RunScan { moment, inputs })?;
+    }
+    Ok(run)
+}
+
+/// Whether the text of the run was written whole: of each scan, or in brief.
+fn runs(
+    alloc: Global,
+    is_brief: bool,
+    program: &Program,
+    writer: &mut CountedWriter<Narrow>,
+) -> bool {
+    let Ok(run) = motor_run(alloc) else {
+        return false;
+    };
+    if is_brief {
+        write_brief_run(program, &run, writer).is_ok()
+    } else {
+        write_run(program, &run, writer).is_ok()
+    }
+}
+
 /// Makes a call, and says whether it wrote all of its text.
 fn writes(
     alloc: Global,
@@ -78,6 +125,8 @@ fn writes(
         Call::Trace => traces(alloc, program, state, writer),
         Call::Uses => write_uses(program, writer).is_ok(),
         Call::State => tells(program, state, writer),
+        Call::Run => runs(alloc, false, program, writer),
+        Call::BriefRun => runs(alloc, true, program, writer),
     }
 }
 

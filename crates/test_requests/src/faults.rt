@@ -25,7 +25,7 @@ const LABEL: GridFault = GridFault::Grid {
     line: 14,
 };
 
-const LINES: [(ToolFault, &[u8]); 18] = [
+const LINES: [(ToolFault, &[u8]); 19] = [
     (
         ToolFault::Grid(GridFault::Vars(DUPLICATE)),
         b"fault V4 line 7\n",
@@ -68,6 +68,7 @@ const LINES: [(ToolFault, &[u8]); 18] = [
     ),
     (ToolFault::Word { number: 10 }, b"fault X3 word 10\n"),
     (ToolFault::Watched { number: 10 }, b"fault X3 watch 10\n"),
+    (ToolFault::Both, b"fault X3 both\n"),
     (ToolFault::Write, b"fault X6\n"),
     (ToolFault::Memory, b"fault X7\n"),
     (ToolFault::Usage, b"fault usage\n"),

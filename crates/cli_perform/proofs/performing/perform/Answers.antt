@@ -22,6 +22,9 @@ returns-in-Causes-clause-failed g c = λ status.
 pub returns-in-Never-clause-failed : goal.returns-in-Never-clause-failed
 returns-in-Never-clause-failed g c = λ status. rw c.in-Never.is (with_third refl (c.list_never.ensures.failed (g.S.Sink.log c.args.save.now) status))
 
+pub returns-in-Reach-clause-failed : goal.returns-in-Reach-clause-failed
+returns-in-Reach-clause-failed g c = λ status. rw c.in-Reach.is (with_third refl (c.reach.ensures.failed (g.S.Sink.log c.args.save.now) status))
+
 pub returns-in-Possible-clause-failed : goal.returns-in-Possible-clause-failed
 returns-in-Possible-clause-failed g c = λ status. rw c.in-Possible.is (with_third refl (c.list_possible.ensures.failed (g.S.Sink.log c.args.save.now) status))
 

@@ -1,0 +1,2 @@
+mod Replayed
+mod ShutOut

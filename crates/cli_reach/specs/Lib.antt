@@ -1,0 +1,4 @@
+pub mod Naming
+pub mod Asking
+pub mod Finding
+pub mod Reaching
