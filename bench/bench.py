@@ -188,6 +188,27 @@ def possible(program, runs):
             wrong(f"{coil}: {said.strip()!r}, and rows {rows} unsettled {unsettled} must come out")
 
 
+def names(program, circuit):
+    """What a run may be asked for: what coils write, and the blocks that are drawn."""
+    rows = subprocess.run([program, "uses", circuit], stdout=subprocess.PIPE, check=True).stdout.decode().splitlines()[1:]
+    drawn = {(name, use) for name, use, *_ in (row.split(",") for row in rows)}
+    return sorted({name for name, use in drawn if use.endswith("coil") or use == "block"})
+
+
+def reached(program, runs):
+    """Runs: of each circuit how many names have one, have none and aren't settled, the time of all together, and the slowest."""
+    print(f"{'a run for each name':34}{'ms':>10}{'run':>6}{'none':>6}{'open':>6}{'states':>8}  the slowest")
+    for circuit in sorted([*(HERE.parent / "examples").glob("*/*.ld"), *(HERE / "circuits").glob("*.ld")]):
+        tried = [(*least([program, "reach", str(circuit), name], runs), name) for name in names(program, circuit)]
+        kinds = collections.Counter(said.split()[0] for _, _, said, _ in tried)
+        if set(kinds) - {"run", "none"}:
+            wrong(f"{circuit.stem}: {dict(kinds)}")
+        most = max(int(said.split()[-1]) for _, _, said, _ in tried)
+        slowest, _, said, name = max(tried)
+        print(f"{f'{circuit.parent.name}/{circuit.stem}':34}{sum(one[0] for one in tried) * 1e3:10.2f}{kinds['run']:6}{kinds['none']:6}{kinds['unsettled']:6}"
+              f"{most:8}  {name} {slowest * 1e3:.2f} ms, {said.strip()}")
+
+
 def declarations():
     """Declarations of the greatest length."""
     text = "VAR\n" + "(* a comment that fills the block *)\n" * 27_000 + "  Y AT %QX0 : BOOL;\nEND_VAR\n"
@@ -297,6 +318,7 @@ def main():
     instructions(program)
     held(program, runs)
     possible(program, runs)
+    reached(program, runs)
     for name, text in TEXTS:
         with tempfile.NamedTemporaryFile() as file:
             file.write(text())

@@ -13,8 +13,10 @@ import tempfile
 
 ROOT = pathlib.Path(__file__).resolve().parent.parent
 FOLDER = ROOT / "completions"
-SUBCOMMANDS = ["causes", "check", "explain", "import", "never", "show", "sim", "uses"]
+SUBCOMMANDS = ["causes", "check", "explain", "import", "never", "reach", "show", "sim", "uses"]
 CIRCUIT = ROOT / "examples/emergency_stop/machine.ld"
+TIMERS = ROOT / "examples/star_delta/star_delta.ld"
+BISTABLE = ROOT / "examples/tank_two_pumps/tank.ld"
 COILS, INPUTS = ["Enabled", "Motor"], ["EStop", "Reset", "Start", "Stop"]
 NAMES = sorted([*COILS, *INPUTS])
 # inputs with an alias, and one without
@@ -38,6 +40,13 @@ LINES = [
     (["sim", "machine.ld", "--watch"], "", NAMES),
     (["sim", "machine.ld", "--watch"], "E", ["EStop", "Enabled"]),
     (["show", "aliases.ld"], "", ["X1", "X2", "X3"]),
+    (["reach", "machine.ld"], "", COILS),
+    (["reach", "star_delta.ld"], "R", ["RunUp.Q"]),
+    (["reach", "tank.ld"], "L", ["Level.Q1"]),
+    (["reach", "--gap", "5", "machine.ld", "Motor"], "", INPUTS),
+    (["reach", "machine.ld", "Motor", "EStop"], "St", ["Start", "Stop"]),
+    (["reach", "star_delta.ld", "--both"], "", ["Both", "Delta", "Main", "Pause.Q", "RunUp.Q", "Star"]),
+    (["reach", "--states"], "", []),
     (["import", "--control"], "", ["on"]),
     (["help"], "s", ["show", "sim"]),
     (["explain"], "X", [f"X{number}" for number in range(1, 8)]),
@@ -100,6 +109,8 @@ def main():
     with tempfile.TemporaryDirectory() as tools, tempfile.TemporaryDirectory() as folder:
         os.symlink(program, pathlib.Path(tools) / "ladder")
         shutil.copy(CIRCUIT, folder)
+        shutil.copy(TIMERS, folder)
+        shutil.copy(BISTABLE, folder)
         (pathlib.Path(folder) / "aliases.ld").write_text(ALIASES, "ascii")
         path = f"{tools}{os.pathsep}{os.environ['PATH']}"
         for name, offered in [("bash", bash), ("fish", fish)]:

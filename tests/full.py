@@ -19,6 +19,7 @@ from compiling import compiled
 HERE = pathlib.Path(__file__).resolve().parent
 TEXTS = {
     "motor.ld": (HERE / "programs" / "motor.ld").read_bytes(),
+    "rhythm.ld": (HERE / "programs" / "rhythm.ld").read_bytes(),
     "running.csv": b"version,2\nmoment,10\nvar,Start,0\nvar,Stop,0\nvar,Motor,1\n",
     "stimulus.csv": b"moment,Start,Stop\n0,1,0\n10,0,0\n",
     "back.csv": b"moment,Start,Stop\n0,1,0\n10,0,0\n5,0,0\n",
@@ -34,6 +35,9 @@ REQUESTS = (
     (("causes", "--grouped", *LIST), 0),
     (("causes", "--any", "motor.ld", "Motor", "Start", "Stop"), 0),
     (("show", "--state", "running.csv", "motor.ld", "Start", "Stop"), 0),
+    (("reach", "--state", "running.csv", "motor.ld", "Motor", "Start"), 0),
+    (("reach", "--every", "10", "rhythm.ld", "Y"), 0),
+    (("reach", "--every", "100", "rhythm.ld", "Y"), 0),
     (("sim", "--save", "saved.csv", "motor.ld", "stimulus.csv"), 0),
     (("sim", "--save", "saved.csv", "motor.ld", "back.csv"), 1),
 )

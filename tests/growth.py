@@ -22,6 +22,7 @@ HERE = pathlib.Path(__file__).resolve().parent
 TEXTS = {
     "motor.ld": (HERE / "programs" / "motor.ld").read_bytes(),
     "counter.ld": (HERE / "programs" / "counter.ld").read_bytes(),
+    "rhythm.ld": (HERE / "programs" / "rhythm.ld").read_bytes(),
     "lamp.clp": (HERE / "projects" / "lamp.clp").read_bytes(),
     "running.csv": b"version,2\nmoment,0\nvar,Start,1\nvar,Stop,0\nvar,Motor,1\n",
     "back.csv": b"moment,Start,Stop\n0,1,0\n10,0,0\n5,0,0\n",
@@ -55,6 +56,9 @@ REQUESTS = (
     (("sim", "--watch-all", "--save", "saved.csv", "counter.ld", "count.csv"), ("fault V9\n", "fault X7\n")),
     (("sim", "--save", "saved.csv", "motor.ld", "long.csv"), ("fault V9\n", "fault X7\n")),
     (("sim", "--state", "running.csv", "--save", "saved.csv", "motor.ld", "long.csv"), ("fault V9\n", "fault X7\n")),
+    (("reach", "--state", "running.csv", "motor.ld", "Motor", "Start"), ("fault V9\n", "fault X7\n")),
+    (("reach", "rhythm.ld", "Y"), ("fault V9\n", "fault X7\n")),
+    (("reach", "--every", "100", "rhythm.ld", "Y"), ("fault V9\n", "fault X7\n")),
     (("import", "lamp.clp"), ("fault X7\n",)),
     (("--help",), ("fault X7\n",)),
 )

@@ -45,10 +45,10 @@ def help_is_printed(*words):
 
 
 def aliases_in_help(program, folder):
-    """What reads a program, and nothing else, has the option, also beside the one for help."""
-    told = {name: b"      --aliases  " in run(program, [name, "--help"], folder)[0] for name in (*OF_PROGRAMS, "import", "explain")}
-    ends = [run(program, [name, "--aliases", "--help"], folder)[2] for name in (*OF_PROGRAMS, "import", "explain")]
-    return differences(([name for name, has in told.items() if has], ends), (list(OF_PROGRAMS), [0] * len(OF_PROGRAMS) + [2, 2]))
+    """What prints names of a program has the option, also beside the one for help; a stimulus keeps the names."""
+    told = {name: b"      --aliases  " in run(program, [name, "--help"], folder)[0] for name in (*OF_PROGRAMS, *WITHOUT_ALIASES)}
+    ends = [run(program, [name, "--aliases", "--help"], folder)[2] for name in (*OF_PROGRAMS, *WITHOUT_ALIASES)]
+    return differences(([name for name, has in told.items() if has], ends), (list(OF_PROGRAMS), [0] * len(OF_PROGRAMS) + [2] * len(WITHOUT_ALIASES)))
 
 
 def full_device():
@@ -141,6 +141,7 @@ def stimulus_from_a_pipe(program, folder):
 
 
 OF_PROGRAMS = ("check", "causes", "show", "sim", "uses", "never")
+WITHOUT_ALIASES = ("reach", "import", "explain")
 CAUSES = ["causes", "motor.ld", "Motor", "Start", "Stop"]
 SIM = ["sim", "motor.ld", "stimulus.csv"]
 STATE = ["causes", "--state", "state.csv", "motor.ld", "Motor"]
@@ -193,11 +194,14 @@ SPECIAL = {
     "streams/help-on-a-full-device": on_a_stream(["--help"], "stdout", full_device, (None, b"fault X6\n", 1)),
     "check/on-a-full-device": on_a_stream(["check", "motor.ld"], "stdout", full_device, (None, b"fault X6\n", 1)),
     "words/help/check": help_is_printed("check", "--help"),
+    "words/help/reach": help_is_printed("reach", "--help"),
     "aliases/in-help": aliases_in_help,
     "words/help/import": help_is_printed("import", "--help"),
     "causes/upto/parts-of-32-inputs": parts_of_32_inputs,
     "streams/rows-on-a-full-device": on_a_stream(CAUSES, "stdout", full_device, (None, b"fault X6\n", 1)),
     "show/on-a-full-device": on_a_stream(["show", "motor.ld", "Start", "Stop"], "stdout", full_device, (None, b"fault X6\n", 1)),
+    "reach/on-a-full-device": on_a_stream(["reach", "motor.ld", "Motor"], "stdout", full_device, (None, b"fault X6\n", 1)),
+    "reach/line-on-a-full-device": on_a_stream(["reach", "motor.ld", "Motor"], "stderr", full_device, (b"moment,Start,Stop\n0,1,0\n", None, 1)),
     "streams/rows-on-an-unread-pipe": on_a_stream(CAUSES, "stdout", unread_pipe, (None, b"fault X6\n", 1)),
     "streams/rows-on-a-closed-output": rows_on_a_closed_output,
     "streams/counts-on-a-full-device": on_a_stream(CAUSES, "stderr", full_device, (b"number,Start,Stop\n2,1,0\n", None, 1)),

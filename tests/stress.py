@@ -264,6 +264,7 @@ REQUESTS = (
     ["never", f"{STATIONS}.ld"],
     ["causes", f"{STATIONS}.ld", "Feed", "EStop", "Guard", "Start", "Stop", "Auto", "Manual", "Clear", "Air"],
     ["causes", "--state", f"{STATIONS}.state.csv", "--at", "1600", f"{STATIONS}.ld", "Run2", "EStop", "Guard", "Start"],
+    ["reach", f"{STATIONS}.ld", "Feed"],
     ["sim", "--save", "saved.csv", f"{STATIONS}.ld", f"{STATIONS}.stimulus.csv"],
 )
 REFUSED = (b"fault V9\n", b"fault C7\n", b"fault X7\n")
