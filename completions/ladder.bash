@@ -5,6 +5,12 @@ _ladder_coils() {
     ladder uses "$1" 2> /dev/null | awk -F, '$2 ~ /coil/ && !seen[$1]++ { print $1 }'
 }
 
+# What can come ON: these variables, and the outputs of the blocks, as the trace of no scan names them.
+_ladder_targets() {
+    _ladder_coils "$1"
+    printf 'moment\n' | ladder sim --watch-all "$1" - 2> /dev/null | tr , '\n' | grep -E '\.Q1?$'
+}
+
 # All variables and instances of the program.
 _ladder_names() {
     ladder uses "$1" 2> /dev/null | awk -F, 'NR > 1 && !seen[$1]++ { print $1 }'
@@ -25,7 +31,7 @@ _ladder() {
     local options file='' coil='' every='' place=0 number
     COMPREPLY=()
     if ((COMP_CWORD == 1)); then
-        mapfile -t COMPREPLY < <(compgen -W 'check causes show sim uses never import explain help --help' -- "$word")
+        mapfile -t COMPREPLY < <(compgen -W 'check causes show sim uses never reach import explain help --help' -- "$word")
         return
     fi
     case $subcommand in
@@ -36,9 +42,10 @@ _ladder() {
         uses) options='--aliases --why --help' ;;
         import) options='--open --control --hal --why --help' ;;
         never) options='--state --off --pairs --quiet --aliases --why --help' ;;
+        reach) options='--state --at --every --scans --states --both --gap --why --help' ;;
         explain) options='--help' ;;
         help)
-            mapfile -t COMPREPLY < <(compgen -W 'check causes show sim uses never import explain' -- "$word")
+            mapfile -t COMPREPLY < <(compgen -W 'check causes show sim uses never reach import explain' -- "$word")
             return
             ;;
     esac
@@ -49,7 +56,7 @@ _ladder() {
                 ((number++))
                 every=1
                 ;;
-            --state | --at | --after | --upto | --limit | --scans | --for | --every | --looks | --order | --number | --stimulus | --coil | --save | --watch | --control | --hal) ((number++)) ;;
+            --state | --at | --after | --upto | --limit | --scans | --for | --every | --looks | --order | --number | --stimulus | --coil | --save | --watch | --states | --both | --gap | --control | --hal) ((number++)) ;;
             -*) ;;
             *)
                 ((place++))
@@ -60,11 +67,12 @@ _ladder() {
     done
     case $before in
         --state | --save | --stimulus | --hal) mapfile -t COMPREPLY < <(compgen -f -- "$word") ;;
-        --at | --after | --upto | --limit | --scans | --for | --every | --looks | --number) ;;
+        --at | --after | --upto | --limit | --scans | --for | --every | --looks | --number | --states | --gap) ;;
         --all-coils) mapfile -t COMPREPLY < <(compgen -d -- "$word") ;;
         --order) mapfile -t COMPREPLY < <(compgen -W 'auto given' -- "$word") ;;
         --control) mapfile -t COMPREPLY < <(compgen -W 'on' -- "$word") ;;
         --coil) mapfile -t COMPREPLY < <(compgen -W "$(_ladder_coils "$file")" -- "$word") ;;
+        --both) mapfile -t COMPREPLY < <(compgen -W "$(_ladder_targets "$file")" -- "$word") ;;
         --watch) mapfile -t COMPREPLY < <(compgen -W "$(_ladder_names "$file")" -- "$word") ;;
         *)
             if [[ $word == -* ]]; then
@@ -75,7 +83,9 @@ _ladder() {
                 mapfile -t COMPREPLY < <(compgen -f -- "$word")
             elif [[ $subcommand == causes && -z $coil && -z $every ]]; then
                 mapfile -t COMPREPLY < <(compgen -W "$(_ladder_coils "$file")" -- "$word")
-            elif [[ $subcommand == causes || $subcommand == show ]]; then
+            elif [[ $subcommand == reach && -z $coil ]]; then
+                mapfile -t COMPREPLY < <(compgen -W "$(_ladder_targets "$file")" -- "$word")
+            elif [[ $subcommand == causes || $subcommand == show || $subcommand == reach ]]; then
                 mapfile -t COMPREPLY < <(compgen -W "$(_ladder_inputs "$file")" -- "$word")
             fi
             ;;
