@@ -1,8 +1,8 @@
-mod Asking
+pub mod Asking
 mod Claims
 mod Covering
 mod Given
 pub mod Rows
-mod Running
+pub mod Running
 mod Words
 mod GroupJudging

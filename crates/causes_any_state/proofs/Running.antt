@@ -16,7 +16,7 @@ use Rattle.invariant_cases.specs.Allowing.{AreApart}
 use Rattle.causes_any_state.specs.Reached.{RunsStay, reached}
 
 -- the state that one scan leaves
-abbrev next : Drawing → OneScan → Standing → Standing
+abbrev pub next : Drawing → OneScan → Standing → Standing
 next p scan s = record s { held = after_scan (diagram_of p) scan.moment scan.inputs s.held; moment = scan.moment }
 
 held_is : (p : Drawing) (scans : List OneScan) (s : Standing) → (reached p scans s).held ≡ after_each (diagram_of p) scans s.held
@@ -31,14 +31,14 @@ module _ (p : Drawing) (sound : IsSound (diagram_of p)) where
       let d = diagram_of p in
       sym (scanned_is d sound.forward now (record { values = given d.inputs inputs h.values; kept = h.kept }))
 
-  next_fits : (scan : OneScan) (s : Standing) → Fits p s → Fits p (next p scan s)
+  pub next_fits : (scan : OneScan) (s : Standing) → Fits p s → Fits p (next p scan s)
   next_fits scan s fits =
       let d = diagram_of p in
       let start : Held = record { values = given d.inputs scan.inputs s.held.values; kept = s.held.kept } in
       let lengths = scan_lengths d scan.moment d.inputs scan.inputs s.held start (next p scan s).held d.rungs refl (by_rungs scan.moment scan.inputs s.held) in
       record { values = lengths.values ∙ fits.values; memories = lengths.memories ∙ fits.memories; kinds = fits.kinds }
 
-  next_stands : (scan : OneScan) (s : Standing) → IsStanding s → s.moment ≤ scan.moment → scan.moment < 2 ^ 64 → IsStanding (next p scan s)
+  pub next_stands : (scan : OneScan) (s : Standing) → IsStanding s → s.moment ≤ scan.moment → scan.moment < 2 ^ 64 → IsStanding (next p scan s)
   next_stands scan s standing later small =
       let d = diagram_of p in
       let now = scan.moment in

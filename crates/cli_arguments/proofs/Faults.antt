@@ -5,8 +5,8 @@ use Rattle.std.proofs.lemmas.Bool.{both_ways}
 use Rattle.std.proofs.lemmas.Slice.Eq.{bytes_eq-Decides}
 use Rattle.clap.specs.Words.{Row, Text, all_of, first_of}
 use Rattle.cli_options.specs.Pages.{is_fault_code}
-use Rattle.cli_arguments.specs.Asking.{Asks, AsksNone, HasCoil, HasControl, HasEvery, HasExcluded, HasNoTask, HasFlag, HasForm, HasInputs, HasLasting, HasNumber, HasOption, HasPace, HasScans, HasSwitch, HasWatched, HasOrder, IsNamed, IsOfOneState, IsSingle, IsTable, MayGroup, MayHaveLimit, NamesCauses, NamesList, NamesTrace, input_texts, inputs_for}
-use Rattle.cli_arguments.specs.Parts.{HasGrouping, IsOfAnyState, IsOfOneScan, IsOfRecords, IsUncut, IsWhole, MayLast, NamesNoEnd, NamesNoStates, NamesScan, Plays}
+use Rattle.cli_arguments.specs.Asking.{Asks, AsksNone, HasCoil, HasControl, HasEvery, HasExcluded, HasNoTask, HasFlag, HasForm, HasInputs, HasLasting, HasNumber, HasOption, HasPace, HasRuns, HasScans, HasSwitch, HasWatched, HasOrder, IsNamed, IsOfOneState, IsPlain, IsSingle, IsTable, MayGroup, MayHaveLimit, NamesCauses, NamesList, NamesTrace, input_texts, inputs_for}
+use Rattle.cli_arguments.specs.Parts.{HasGrouping, IsOfAnyState, IsOfOneScan, IsOfRecords, IsUncut, IsWhole, MayLast, NamesNoEnd, NamesNoRuns, NamesNoStates, NamesScan, Plays}
 use Rattle.cli_arguments.specs.Faults.{UsageWhere}
 use Rattle.cli_arguments.specs.declared.request.GroupFormat.{GroupFormat}
 use Rattle.cli_arguments.specs.declared.request.GroupFormat.TheVariants.{Statement, Table, Terms}
@@ -23,6 +23,7 @@ use Rattle.cli_arguments.specs.declared.request.SimRequest.{SimRequest}
 use Rattle.cli_arguments.specs.declared.request.WatchRequest.{WatchRequest}
 use Rattle.cli_arguments.specs.declared.request.WavesRequest.{WavesRequest}
 use Rattle.cli_arguments.specs.declared.request.PossibleRequest.{PossibleRequest}
+use Rattle.cli_arguments.specs.declared.request.RunsWanted.{RunsWanted}
 use Rattle.cli_arguments.specs.declared.request.Excluded.{Excluded}
 use Rattle.cli_arguments.specs.declared.request.NeverRequest.{NeverRequest}
 use Rattle.cli_arguments.specs.declared.request.Pace.{Pace}
@@ -146,9 +147,12 @@ only_of_one_state rows one_state named causes held groups = only_causes rows cau
 -- Which states are meant is said of any state alone.
 pub no_one_state : (rows : List Row) → (HasFlag (codes "any") rows → ⊥) → (NamesNoStates rows → ⊥) → AsksNone (codes "causes") rows
 no_one_state rows not_any none =
-    only_causes rows (λ list after upto h. none (h.4.1, h.4.2, h.4.3, h.4.4)) (λ list scans every grouped h. none (h.8.1, h.8.2, h.8.3, h.8.4))
-    (λ list grouping h. none (h.10.1, h.10.2, h.10.3, h.10.4)) (λ r h. not_any h.1)
-    (λ list after grouping h. none (h.6.1, h.6.2, h.6.3, h.6.4))
+    only_causes rows (λ list after upto h. none (states_of h.4)) (λ list scans every grouped h. none (states_of h.8))
+    (λ list grouping h. none (states_of h.10)) (λ r h. not_any h.1)
+    (λ list after grouping h. none (states_of h.6))
+  where
+    states_of : IsOfOneState rows → NamesNoStates rows
+    states_of one_state = (one_state.1, one_state.2, one_state.3, one_state.4, one_state.5, one_state.6)
 
 pub only_show : (rows : List Row)
     → ((r : ShowRequest) → Asks (codes "show") rows (Show r) → ⊥)
@@ -280,10 +284,35 @@ no_groups_of_grouping rows one_state named grouped one none =
 
 -- what some state switches on
 pub no_possible_of_bound : (rows : List Row) → HasFlag (codes "any") rows → (IsOfAnyState rows → ⊥) → AsksNone (codes "causes") rows
-no_possible_of_bound rows any none = only_possible rows any (λ r h. none (h.4, h.5, (h.9, h.10, h.11, (h.12, (h.21, h.22))), h.18))
+no_possible_of_bound rows any none = only_possible rows any (λ r h. none (h.5, (h.9, h.10, h.11, (h.12, (h.21, h.22))), h.18))
 
 pub no_possible_of_grouping : (rows : List Row) → HasFlag (codes "any") rows → (HasForm Table rows → HasOrder Given rows → ⊥) → AsksNone (codes "causes") rows
 no_possible_of_grouping rows any none = only_possible rows any (λ r h. none h.7 h.8)
+
+pub no_possible_of_runs : (rows : List Row) → HasFlag (codes "any") rows → ((o : Option RunsWanted) → HasRuns o rows → ⊥) → AsksNone (codes "causes") rows
+no_possible_of_runs rows any none = only_possible rows any (λ r h. none r.runs h.4)
+
+-- Runs are asked for by a flag.
+pub no_runs_of_names : (rows : List Row) → (HasFlag (codes "runs") rows → ⊥) → (NamesNoRuns rows → ⊥) → (o : Option RunsWanted) → HasRuns o rows → ⊥
+no_runs_of_names rows unasked none None h = none (h.1, h.2)
+no_runs_of_names rows unasked none (Some runs) h = unasked h.0
+
+pub no_runs_of_plain : (rows : List Row) → HasFlag (codes "runs") rows → (IsPlain rows → ⊥) → (o : Option RunsWanted) → HasRuns o rows → ⊥
+no_runs_of_plain rows asked none None h = h.0 asked
+no_runs_of_plain rows asked none (Some runs) h = none h.3
+
+pub no_runs_of_states : (rows : List Row) → HasFlag (codes "runs") rows → ((o : Option ℕ) → HasNumber (codes "states") rows o → ⊥) → (o : Option RunsWanted) → HasRuns o rows → ⊥
+no_runs_of_states rows asked none None h = h.0 asked
+no_runs_of_states rows asked none (Some runs) h = none runs.states h.2
+
+-- the state in which the runs begin that are asked for
+abbrev start_of : Option RunsWanted → Option (String Global)
+start_of None = None
+start_of (Some runs) = runs.state
+
+start_named : (rows : List Row) (o : Option RunsWanted) → HasRuns o rows → HasOption (codes "state") rows (option_map string_bytes (start_of o))
+start_named rows None h = h.1
+start_named rows (Some runs) h = h.1
 
 pub no_possible_of_looks : (rows : List Row) → HasFlag (codes "any") rows → ((o : Option ℕ) → HasNumber (codes "looks") rows o → ⊥) → AsksNone (codes "causes") rows
 no_possible_of_looks rows any none = only_possible rows any (λ r h. none r.looks h.20)
@@ -293,8 +322,8 @@ no_possible_of_list rows any none =
     only_possible rows any
     (λ r h.
     none
-    (record { state = None; moment = None; limit = r.limit; quiet = r.quiet; file = r.file; coil = r.coil; all_inputs = r.all_inputs; inputs = r.inputs })
-    (h.4, h.5, h.13, h.14, h.15, h.16, h.17))
+    (record { state = start_of r.runs; moment = None; limit = r.limit; quiet = r.quiet; file = r.file; coil = r.coil; all_inputs = r.all_inputs; inputs = r.inputs })
+    (start_named rows r.runs h.4, h.5, h.13, h.14, h.15, h.16, h.17))
 
 -- the inputs that matter
 only_relevant : (rows : List Row) → HasFlag (codes "relevant") rows

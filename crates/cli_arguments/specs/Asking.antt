@@ -23,6 +23,7 @@ use Rattle.cli_arguments.specs.declared.request.CommandLine.{CommandLine}
 use Rattle.cli_arguments.specs.declared.request.ListRequest.{ListRequest}
 use Rattle.cli_arguments.specs.declared.request.Request.{Request}
 use Rattle.cli_arguments.specs.declared.request.Request.TheVariants.{Causes, Check, Film, Groups, Held, Import, Never, Possible, Progress, Reach, Relevant, Show, Sim, Uses, Watch, Waves}
+use Rattle.cli_arguments.specs.declared.request.RunsWanted.{RunsWanted}
 use Rattle.cli_arguments.specs.declared.request.SimRequest.{SimRequest}
 use Rattle.cli_arguments.specs.declared.request.Task.{Task}
 use Rattle.cli_arguments.specs.declared.request.Task.TheVariants.{Explain, Perform, PerformAll}
@@ -81,11 +82,25 @@ abbrev pub HasOrder : InputOrder → List Row → Type 0
 HasOrder order rows = ((first_of (codes "order") rows ≡ None) × (order ≡ Given))
     ⊎ (name : List ℕ) × HasText (codes "order") rows name × IsNamed name order
 
--- One state is asked of: no word says that any is, which, or how long a search among them is.
+-- One state is asked of: no word says that any is, which, how long a search among them is, or that runs are to come to a row.
 abbrev pub IsOfOneState : List Row → Type 0
 IsOfOneState rows = (HasFlag (codes "any") rows → ⊥) × (HasFlag (codes "off") rows → ⊥) × (HasFlag (codes "must") rows → ⊥)
     × (HasFlag (codes "reachable") rows → ⊥)
     × HasNumber (codes "looks") rows None
+    × (HasFlag (codes "runs") rows → ⊥)
+    × HasNumber (codes "states") rows None
+
+-- Each state counts, some one is to leave the coil ON, and each cause has a row of its own.
+abbrev pub IsPlain : List Row → Type 0
+IsPlain rows = (HasFlag (codes "off") rows → ⊥) × (HasFlag (codes "must") rows → ⊥) × (HasFlag (codes "grouped") rows → ⊥)
+
+-- Which runs are to come to the rows of any state: none where no word asks for them, and then no state is named in which they begin, and no number of states to keep.
+abbrev pub HasRuns : Option RunsWanted → List Row → Type 0
+HasRuns None rows = (HasFlag (codes "runs") rows → ⊥) × HasOption (codes "state") rows None × HasNumber (codes "states") rows None
+HasRuns (Some runs) rows = HasFlag (codes "runs") rows
+    × HasOption (codes "state") rows (option_map string_bytes runs.state)
+    × HasNumber (codes "states") rows runs.states
+    × IsPlain rows
 
 -- A statement is written whole or not at all.
 abbrev pub MayHaveLimit : GroupFormat → Option ℕ → Type 0
@@ -225,7 +240,7 @@ Asks name rows (Possible r) = (name ≡ codes "causes")
     × HasFlag (codes "any") rows
     × HasSwitch (codes "off") rows r.off
     × HasSwitch (codes "must") rows r.must
-    × HasOption (codes "state") rows None
+    × HasRuns r.runs rows
     × HasNumber (codes "at") rows None
     × HasSwitch (codes "grouped") rows r.grouped
     × HasForm Table rows
@@ -267,6 +282,7 @@ Asks name rows (Reach r) = (name ≡ codes "reach")
     × HasText (codes "file") rows (string_bytes r.file)
     × HasText (codes "name") rows (string_bytes r.name)
     × (unwrap_or (all_of (codes "inputs") rows) [] ≡ map string_bytes r.inputs.items)
+    × HasSwitch (codes "progress") rows r.progress
 Asks name rows (Show r) = (name ≡ codes "show")
     × HasOption (codes "stimulus") rows None
     × HasOption (codes "state") rows (option_map string_bytes r.state)

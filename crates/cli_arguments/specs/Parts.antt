@@ -46,18 +46,23 @@ IsOfOneScan rows = HasNumber (codes "scans") rows None
     × HasNumber (codes "every") rows None
     × IsUncut rows
 
--- One scan of any state, at any moment, is asked for: no state and no moment are given, and no inputs are found for one state.
+-- One scan of any state, at any moment, is asked for: no moment is given, and no inputs are found for one state.
 abbrev pub IsOfAnyState : List Row → Type 0
-IsOfAnyState rows = HasOption (codes "state") rows None
-    × HasNumber (codes "at") rows None
+IsOfAnyState rows = HasNumber (codes "at") rows None
     × IsOfOneScan rows
     × (HasFlag (codes "relevant") rows → ⊥)
 
--- Nothing says which states count, whether every one is meant, or how long a search is.
+-- Nothing says which states count, whether every one is meant, how long a search is, or that runs are to come to a row.
 abbrev pub NamesNoStates : List Row → Type 0
 NamesNoStates rows = (HasFlag (codes "off") rows → ⊥) × (HasFlag (codes "must") rows → ⊥)
     × (HasFlag (codes "reachable") rows → ⊥)
     × HasNumber (codes "looks") rows None
+    × (HasFlag (codes "runs") rows → ⊥)
+    × HasNumber (codes "states") rows None
+
+-- No state is named in which runs begin, and no number of states that a search for one keeps.
+abbrev pub NamesNoRuns : List Row → Type 0
+NamesNoRuns rows = HasOption (codes "state") rows None × HasNumber (codes "states") rows None
 
 -- how long the scans last, where there are several
 abbrev pub MayLast : Option Lasting → List Row → Type 0

@@ -11,6 +11,7 @@ use crate::grouping::{groups_request, refuse_grouping, relevant_groups};
 use crate::lasting::{held_request, lasting_of};
 use crate::parts::{is_counted, list_of, names_end};
 use crate::request::{ListRequest, PossibleRequest, Request, WordFault};
+use crate::runs::runs_of;
 use crate::showing::lists_inputs;
 use clap::ArgMatches;
 use std::alloc::Global;
@@ -33,7 +34,8 @@ pub(crate) fn causes_request(alloc: Global, found: &ArgMatches<'_>) -> Result<Re
     one_state_request(alloc, found)
 }
 
-/// Whether one of the flags is given that go with `--any` alone: OFF, forced, reachable, or how many looks.
+/// Whether one of the options is given that go with `--any` alone: OFF, forced, reachable, how many looks, runs, or how many
+/// states.
 fn names_states(found: &ArgMatches<'_>) -> bool
     ensures none { result ≡ false → NamesNoStates (rows_of (found_of found.now)) }
     ensures some { result ≡ true → NamesNoStates (rows_of (found_of found.now)) → ⊥ }
@@ -42,6 +44,8 @@ fn names_states(found: &ArgMatches<'_>) -> bool
         || is_set(found, "must")
         || is_set(found, "reachable")
         || is_given(found, "looks")
+        || is_set(found, "runs")
+        || is_given(found, "states")
 }
 
 /// The request for a list over one given state: of one scan or of several.
@@ -82,6 +86,7 @@ fn possible_request(alloc: Global, found: &ArgMatches<'_>) -> Result<Request, Wo
         return Err(WordFault::Usage);
     }
     refuse_grouping(found)?;
+    let runs = runs_of(alloc, found)?;
     let off = is_set(found, "off");
     let must = is_set(found, "must");
     let reachable = is_set(found, "reachable");
@@ -101,6 +106,7 @@ fn possible_request(alloc: Global, found: &ArgMatches<'_>) -> Result<Request, Wo
         must,
         reachable,
         looks,
+        runs,
         grouped,
         limit,
         quiet,
@@ -111,16 +117,13 @@ fn possible_request(alloc: Global, found: &ArgMatches<'_>) -> Result<Request, Wo
     }))
 }
 
-/// Whether something is asked for that doesn't go with `--any`: a state, a moment, several scans, a part of a list, progress, or
+/// Whether something is asked for that doesn't go with `--any`: a moment, several scans, a part of a list, progress, or
 /// the inputs that matter.
 fn is_bound(found: &ArgMatches<'_>) -> bool
     ensures none { result ≡ false → IsOfAnyState (rows_of (found_of found.now)) }
     ensures some { result ≡ true → IsOfAnyState (rows_of (found_of found.now)) → ⊥ }
 {
-    is_given(found, "state")
-        || is_given(found, "at")
-        || is_counted(found)
-        || is_set(found, "relevant")
+    is_given(found, "at") || is_counted(found) || is_set(found, "relevant")
 }
 
 /// The request for the rows of one scan, all of them or a part, with or without progress.

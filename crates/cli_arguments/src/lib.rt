@@ -8,13 +8,14 @@ mod lasting;
 mod parts;
 mod reaching;
 mod request;
+mod runs;
 mod showing;
 mod simulating;
 mod words;
 
 pub use request::{
     AllCoils, CommandLine, Excluded, FilmRequest, GroupFormat, Grouping, InputOrder, ListRequest,
-    Medium, NeverRequest, Pace, PossibleRequest, ReachRequest, Request, ShowRequest, SimRequest,
-    Task, WatchRequest, WavesRequest, WordFault,
+    Medium, NeverRequest, Pace, PossibleRequest, ReachRequest, Request, RunsWanted, ShowRequest,
+    SimRequest, Task, WatchRequest, WavesRequest, WordFault,
 };
 pub use words::read_words;

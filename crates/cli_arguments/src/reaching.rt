@@ -5,7 +5,7 @@ ghost use Rattle.clap.specs.Words.{found_of, rows_of};
 ghost use Rattle.cli_arguments.specs.Asking.{Asks, AsksNone, HasPace};
 ghost use Rattle.cli_arguments.specs.Faults.{UsageWhere};
 
-use crate::found::{number, optional, text, texts};
+use crate::found::{is_set, number, optional, text, texts};
 use crate::parts::{Sources, sources_of};
 use crate::request::{Pace, ReachRequest, Request, WordFault};
 use clap::ArgMatches;
@@ -20,6 +20,7 @@ pub(crate) fn reach_request(alloc: Global, found: &ArgMatches<'_>) -> Result<Req
     let pace = pace_of(found)?;
     let states = number(found, "states")?;
     let both = optional(alloc, found, "both")?;
+    let progress = is_set(found, "progress");
     let Sources { state, file } = sources_of(alloc, found)?;
     let name = text(alloc, found, "name")?;
     let inputs = texts(alloc, found, "inputs")?;
@@ -29,6 +30,7 @@ pub(crate) fn reach_request(alloc: Global, found: &ArgMatches<'_>) -> Result<Req
         pace,
         states,
         both,
+        progress,
         file,
         name,
         inputs,

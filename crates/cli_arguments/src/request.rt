@@ -61,6 +61,15 @@ pub struct ListRequest {
     pub inputs: Vec<String>,
 }
 
+/// What a request for a list of any state names of runs, where it asks of each row whether one comes to it.
+#[derive(Drop)]
+pub struct RunsWanted {
+    /// The file of the state in which runs begin; the fresh one where there is none.
+    pub state: Option<String>,
+    /// How many states the search for a run to one row keeps at most, where it is said.
+    pub states: Option<u64>,
+}
+
 /// What a request for a list of any state names: the states, the coil and the inputs, and how the list is written.
 #[derive(Drop)]
 pub struct PossibleRequest {
@@ -72,6 +81,9 @@ pub struct PossibleRequest {
     pub reachable: bool,
     /// How many scans a search for one row makes at most, where it is said.
     pub looks: Option<u64>,
+    /// Which runs are to come to each row, where that is asked; then each state counts, some one is to leave the coil ON, and
+    /// there are no groups.
+    pub runs: Option<RunsWanted>,
     /// Whether rows are those of groups, with the inputs that don't matter in each.
     pub grouped: bool,
     /// How many rows are written at most.
@@ -217,6 +229,8 @@ pub struct ReachRequest {
     pub states: Option<u64>,
     /// The name of what is to be ON too, where there is one.
     pub both: Option<String>,
+    /// Whether lines tell how far the search is.
+    pub progress: bool,
     /// The file of the program text.
     pub file: String,
     /// The name of the variable, or of the output of an instance, that is to come ON.

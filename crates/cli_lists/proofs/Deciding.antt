@@ -6,8 +6,9 @@ use Rattle.cli_inputs.specs.Reports.{HasCauseFault, Logs, Refuses}
 use Rattle.cli_inputs.specs.Setting.{Given}
 use Rattle.cli_arguments.specs.declared.request.Grouping.{Grouping}
 use Rattle.cli_arguments.specs.declared.request.ListRequest.{ListRequest}
-use Rattle.cli_lists.specs.Lists.{BreaksOff, BreaksRelevant, GroupedBy, HasRelevantFault, IsDecided, after_for}
-use Rattle.cli_lists.proofs.Endings.{breaks_asked, refuses_as}
+use Rattle.cli_questions.specs.Ending.{BreaksOff}
+use Rattle.cli_lists.specs.Lists.{BreaksRelevant, GroupedBy, HasRelevantFault, IsDecided, after_for}
+use Rattle.cli_questions.proofs.Endings.{breaks_asked, refuses_as}
 
 pub relevant_failed : (g : Given) (r : ListRequest) (after : Option ℕ) (grouping : Option Grouping) (q : Question) (old new : Logs) → IsDecided g r q
     → Refuses g (HasCauseFault (refusal q (after_for after grouping))) old new ⊎ BreaksOff g (GroupedBy grouping r.limit after q) r.quiet old new

@@ -33,7 +33,7 @@ use Rattle.text_lists.specs.HeldText.{held_text}
 use Rattle.cli_arguments.specs.declared.request.GroupFormat.{GroupFormat}
 use Rattle.cli_arguments.specs.declared.request.InputOrder.{InputOrder}
 use Rattle.cli_arguments.specs.declared.request.InputOrder.TheVariants as order
-use Rattle.cli_lists.specs.declared.counting.ListCounts.TheVariants as counts
+use Rattle.cli_questions.specs.declared.counting.ListCounts.TheVariants as counts
 use Rattle.cli_lists.specs.Lists.{IsFirstFault, cause_counts, causes_text, form_on, group_counts, groups_text, held_fault, held_for, held_group_counts, held_group_fault, held_groups_for, ordered}
 
 summary_is : (s : Summary) (rows looks : ℕ) → s.rows ≡ rows → s.looks ≡ looks → counts.Causes s ≡ counts.Causes (record { rows = rows; looks = looks })

@@ -1,5 +1,3 @@
 mod Deciding
-mod Endings
 mod Forms
-mod PossibleEnds
 mod ProgressEnds

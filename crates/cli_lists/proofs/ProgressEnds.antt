@@ -14,8 +14,9 @@ use Rattle.cli_inputs.specs.Reports.{IsReported, logs}
 use Rattle.cli_inputs.specs.declared.fault.ToolFault.TheVariants as fault
 use Rattle.io_text.specs.Log.{WriteLog}
 use Rattle.cli_arguments.specs.declared.request.ListRequest.{ListRequest}
-use Rattle.cli_lists.specs.declared.counting.ListCounts.{ListCounts}
-use Rattle.cli_lists.specs.Lists.{BreaksProgress, IsAsked, cause_counts, causes_for, counts_line, list_refusal, progress_counts_text, progress_text, progress_text_to, unless_quiet}
+use Rattle.cli_questions.specs.declared.counting.ListCounts.{ListCounts}
+use Rattle.cli_questions.specs.Ending.{IsAsked, counts_line, unless_quiet}
+use Rattle.cli_lists.specs.Lists.{BreaksProgress, cause_counts, causes_for, list_refusal, progress_counts_text, progress_text, progress_text_to}
 
 -- The same text in other words.
 pub told_alike : (f : ProgressFault) (p d : Drawing) (l g xs ys : List ℕ) (o o' e e' : WriteLog) → p ≡ d → l ≡ g → xs ≡ ys

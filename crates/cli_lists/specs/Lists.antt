@@ -1,9 +1,6 @@
--- How a request for a list ends: all its rows are written, or a fault stops it.
-use Rattle.std.specs.Prelude.{◌≡◌, ◌⊎◌, ◌++◌, ◌^◌, ◌∷◌, if◌then◌else◌, ℕ, List, Bool, true, false, Option, None, Some, IfSome, codes, count_by, decimal, [], length, map, nat_lt, not, option_map, string_bytes, unwrap_or}
+-- How a request for a list ends, in each form.
+use Rattle.std.specs.Prelude.{◌≡◌, ◌⊎◌, ◌∷◌, ℕ, List, Bool, true, false, Option, None, Some, [], length, option_map, string_bytes}
 use Rattle.std.specs.Option.{option_or}
-use Rattle.diagram_program.specs.Program.{Drawing}
-use Rattle.scan_cycle.specs.Programs.{diagram_of}
-use Rattle.scan_cycle.specs.Standing.{Standing}
 use Rattle.causes_query.specs.declared.fault.CauseFault.{CauseFault}
 use Rattle.causes_query.specs.declared.fault.CauseFault.TheVariants as cause
 use Rattle.causes_query.specs.Causes.{Question, causes_after, is_cause}
@@ -23,32 +20,14 @@ use Rattle.causes_held.specs.GroupRefusal.{held_group_refusal}
 use Rattle.causes_held.specs.declared.fault.HeldGroupFault.{HeldGroupFault}
 use Rattle.causes_held.specs.declared.fault.HeldGroupFault.TheVariants as held_group
 use Rattle.search_groups.specs.Classes.{numbers_in}
-use Rattle.search_groups.specs.declared.class_table.TheConstants.{BITS_LIMIT}
 use Rattle.search_groups.specs.declared.class_walk.ClassGroup.{ClassGroup}
-use Rattle.text_lists.specs.ClassText.{held_group_text, possible_group_text, unsettled_in}
+use Rattle.text_lists.specs.ClassText.{held_group_text}
 use Rattle.scan_held.specs.declared.fault.HeldFault.{HeldFault}
 use Rattle.scan_held.specs.declared.fault.HeldFault.TheVariants as held
 use Rattle.scan_held.specs.declared.scans.HeldCause.{HeldCause}
 use Rattle.scan_held.specs.declared.scans.Scans.{Scans}
-use Rattle.text_lists.specs.SteadyText.{steady_rows, steady_text}
-use Rattle.invariant_sets.specs.Invariants.{IsStaying}
-use Rattle.scan_cycle.specs.Runs.{OneScan, after_each}
-use Rattle.invariant_sets.specs.Never.{IsSo}
-use Rattle.text_lists.specs.PairText.{pairs_text}
-use Rattle.invariant_cases.specs.Allowing.{AreApart}
-use Rattle.invariant_sets.specs.Pairs.{HasToldApart}
 use Rattle.text_causes.specs.CauseText.{cause_text, limited}
-use Rattle.causes_any_state.specs.Possible.{AreRows}
-use Rattle.causes_any_state.specs.Reached.{AreReached}
-use Rattle.causes_any_state.specs.declared.states.States.{States}
-use Rattle.invariant_sets.specs.declared.staying.Staying.{Staying}
-use Rattle.causes_any_state.specs.declared.before.Before.TheVariants as before
-use Rattle.causes_any_state.specs.declared.claim.Claim.{Claim}
-use Rattle.causes_any_state.specs.declared.claim.Claim.TheVariants as claim
-use Rattle.causes_any_state.specs.declared.possible.PossibleCause.{PossibleCause}
-use Rattle.causes_any_state.specs.Cursor.{ArePossibleGroups}
 use Rattle.text_lists.specs.HeldText.{held_text}
-use Rattle.text_lists.specs.PossibleText.{AreFew, possible_text}
 use Rattle.text_causes.specs.Parts.{part, part_looks}
 use Rattle.text_causes.specs.Progress.{TellsAll, TellsUntil}
 use Rattle.text_causes.specs.TermText.{form_text}
@@ -64,102 +43,11 @@ use Rattle.cli_arguments.specs.declared.request.Grouping.{Grouping}
 use Rattle.cli_arguments.specs.declared.request.InputOrder.{InputOrder}
 use Rattle.cli_arguments.specs.declared.request.InputOrder.TheVariants as order
 use Rattle.cli_arguments.specs.declared.request.ListRequest.{ListRequest}
-use Rattle.cli_arguments.specs.declared.request.Excluded.{Excluded}
-use Rattle.cli_arguments.specs.declared.request.Excluded.TheVariants as excluded
-use Rattle.cli_arguments.specs.declared.request.NeverRequest.{NeverRequest}
-use Rattle.cli_arguments.specs.declared.request.PossibleRequest.{PossibleRequest}
-use Rattle.cli_lists.specs.declared.counting.ListCounts.{ListCounts}
-use Rattle.cli_lists.specs.declared.counting.ListCounts.TheVariants as counts
-use Rattle.cli_inputs.specs.Setting.{Given, HasSettingFault, IsSet}
-use Rattle.cli_inputs.specs.Variables.{AreListed, variable_of}
-use Rattle.cli_inputs.specs.Reports.{HasCauseFault, HasWordFault, IsReported, Logs}
-
--- ---- how a list ends
-
--- `rows R`
-abbrev pub held_line : ℕ → List ℕ
-held_line rows = codes "rows " ++ (decimal rows ++ codes "\n")
-
--- The rows, and what else is counted: `looks L`, `causes C`, `unsettled U`.
-abbrev pub counts_line : ListCounts → List ℕ
-counts_line (counts.Rows rows) = held_line rows
-counts_line (counts.Causes s) = codes "rows " ++ (decimal s.rows ++ (codes " looks " ++ (decimal s.looks ++ codes "\n")))
-counts_line (counts.Groups s) = codes "rows " ++ (decimal s.rows ++ (codes " causes " ++ (decimal s.causes ++ codes "\n")))
-counts_line (counts.Possible s) = codes "rows " ++ (decimal s.rows ++ (codes " unsettled " ++ (decimal s.unsettled ++ codes "\n")))
-counts_line (counts.PossibleGroups s) =
-    codes "rows " ++ (decimal s.rows ++ (codes " causes " ++ (decimal s.causes ++ (codes " unsettled " ++ (decimal s.unsettled ++ codes "\n")))))
-
--- A line of counts, where it isn't left out.
-abbrev pub unless_quiet : Bool → List ℕ → List ℕ
-unless_quiet true line = []
-unless_quiet false line = line
-
--- which text a list may be, and what is counted of it where it is written whole
-abbrev pub Listing : Type 1
-Listing = List ℕ → Option ListCounts → Type 0
-
--- a form of list: what it may be for each question
-abbrev pub Form : Type 1
-Form = Question → Listing
-
--- a form in which each question that isn't refused has one text
-abbrev pub Lists : {F : Type 0} → (Question → Option F) → (Question → List ℕ) → (Question → ListCounts) → Form
-Lists refused text_of counts_of q text c = (refused q ≡ None) × (text ≡ text_of q) × IfSome c (λ n. n ≡ counts_of q)
-
--- a list of what is asked, in a form
-abbrev pub ListsAsked : (Question → Type 0) → Form → Listing
-ListsAsked Asked Is text c = (q : Question) × Asked q × Is q text c
-
--- The text was written, and then the line of its counts: whole, or as far as `Written` says.
-pub record Ends (Is : Listing) (quiet : Bool) (out out' : WriteLog) (Written : List ℕ → Type 0) : Type 0 where
-  pub text : List ℕ
-  pub counts : ListCounts
-  pub is : Is text (Some counts)
-  pub put : PutsAll out out' text
-  pub counted : Written (unless_quiet quiet (counts_line counts))
-
--- Status 1: `out` failed at the text, or `err` at its counts.
-abbrev pub BreaksOff : Given → Listing → Bool → Logs → Logs → Type 0
-BreaksOff g Is quiet old new =
-    ((text : List ℕ) × Is text None × PutsPrefix old.out new.out text × IsReported g old.err new.err fault.Write)
-    ⊎ Ends Is quiet old.out new.out (PutsPrefix old.err new.err)
-
--- A fault of these names.
-abbrev pub HasNameFault : Given → List (List ℕ) → ToolFault → Type 0
-HasNameFault g names f = (p : Drawing) × (s : Standing) × IsSet g p s × HasWordFault p.decls names f
-
--- Faults are looked for in this order: in the program text, in the state text, in the names, in what is asked.
-abbrev pub HasAskedFault : Given → List (List ℕ) → (Question → Type 0) → (Question → ToolFault → Type 0) → ToolFault → Type 0
-HasAskedFault g names Asked Refused f = HasSettingFault g f ⊎ (HasNameFault g names f ⊎ ((q : Question) × Asked q × Refused q f))
-
--- ---- what is asked of one state
-
--- The texts describe the program and the state, and the name is that of the coil's variable. Without a moment the scan is at the stored one.
-pub record IsOnCoil (g : Given) (coil : List ℕ) (moment : Option ℕ) (q : Question) : Type 0 where
-  pub set : IsSet g q.program q.state
-  pub at : q.now ≡ unwrap_or moment q.state.moment
-  pub on : variable_of q.program.decls coil ≡ Some q.coil
-
--- The other names are those of the listed inputs, where not all inputs are listed.
-abbrev pub IsNamed : Given → List ℕ → Option ℕ → Bool → List (List ℕ) → Question → Type 0
-IsNamed g coil moment all inputs q = IsOnCoil g coil moment q × AreListed q.program.decls all inputs q.listed
-
-abbrev pub IsAsked : Given → ListRequest → Question → Type 0
-IsAsked g r = IsNamed g (string_bytes r.coil) r.moment r.all_inputs (map string_bytes r.inputs.items)
-
--- the names of a request: COIL is word 1, the first INPUT word 2
-abbrev pub names_of : ListRequest → List (List ℕ)
-names_of r = string_bytes r.coil ∷ map string_bytes r.inputs.items
-
--- How a list in a form ends that a request asks for, and which faults it may have.
-abbrev pub CountsAsked : Form → Given → ListRequest → WriteLog → WriteLog → (List ℕ → Type 0) → Type 0
-CountsAsked Is g r = Ends (ListsAsked (IsAsked g r) Is) r.quiet
-
-abbrev pub BreaksAsked : Form → Given → ListRequest → Logs → Logs → Type 0
-BreaksAsked Is g r = BreaksOff g (ListsAsked (IsAsked g r) Is) r.quiet
-
-abbrev pub HasRequestFault : (Question → ToolFault → Type 0) → Given → ListRequest → ToolFault → Type 0
-HasRequestFault Refused g r = HasAskedFault g (names_of r) (IsAsked g r) Refused
+use Rattle.cli_questions.specs.declared.counting.ListCounts.{ListCounts}
+use Rattle.cli_questions.specs.declared.counting.ListCounts.TheVariants as counts
+use Rattle.cli_inputs.specs.Setting.{Given}
+use Rattle.cli_inputs.specs.Reports.{HasCauseFault, IsReported, Logs}
+use Rattle.cli_questions.specs.Ending.{BreaksAsked, BreaksOff, CountsAsked, Ends, Form, HasAskedFault, HasRequestFault, IsAsked, IsOnCoil, Lists, ListsAsked, counts_line, unless_quiet}
 
 -- ---- a list of causes
 
@@ -291,128 +179,6 @@ BreaksHeldBy grouped g r s = BreaksAsked (HeldBy grouped r.limit s) g r
 
 abbrev pub HasHeldFaultBy : Bool → Given → ListRequest → Scans → ToolFault → Type 0
 HasHeldFaultBy grouped g r s = HasRequestFault (λ q. IsFirstFault (held_refusal_by grouped s q)) g r
-
--- ---- what never changes
-
--- What is written for what is shut out: the names that stay OFF where ON is, with the places where they are drawn, those that stay ON where OFF
--- is, or the pairs of names of which not both are ON.
-abbrev pub never_text : Excluded → Drawing → Staying → List ℕ
-never_text excluded.On p staying = steady_text p staying.steady false
-never_text excluded.Off p staying = steady_text p staying.steady true
-never_text excluded.BothOn p staying = pairs_text p staying.apart
-
--- how many rows that are
-abbrev pub never_count : Excluded → Drawing → Staying → ℕ
-never_count excluded.On p staying = length (steady_rows p staying.steady false)
-never_count excluded.Off p staying = length (steady_rows p staying.steady true)
-never_count excluded.BothOn p staying = length staying.apart
-
--- What stays so from the state on is written, whole or as far as `Written` says. It is so in the state, and after any scans from there, with any
--- inputs and at any moments. None of it is an input, no pair has one that never changes, and all that one scan settles is among it.
-pub record ListsNever (shut_out : Excluded) (g : Given) (Written : List ℕ → Type 0) : Type 0 where
-  pub program : Drawing
-  pub state : Standing
-  pub set : IsSet g program state
-  pub staying : Staying
-  pub stays : IsStaying program state staying
-  pub told : HasToldApart program state staying.steady staying.apart
-  pub so : (scans : List OneScan)
-      → IsSo staying.steady (after_each (diagram_of program) scans state.held) × AreApart staying.apart (after_each (diagram_of program) scans state.held)
-  pub rows : Written (never_text shut_out program staying)
-
--- A fault of the texts, or being out of memory.
-abbrev pub HasNeverFault : Given → ToolFault → Type 0
-HasNeverFault g f = HasSettingFault g f ⊎ (f ≡ fault.Memory)
-
--- The rows were listed, and then their number is written: whole, or as far as `Counted` says.
-pub record CountsNever (shut_out : Excluded) (g : Given) (r : NeverRequest) (out out' : WriteLog) (Counted : List ℕ → Type 0) : Type 0 where
-  pub list : ListsNever shut_out g (PutsAll out out')
-  pub count : Counted (unless_quiet r.quiet (held_line (never_count shut_out list.program list.staying)))
-
--- Status 1: `out` failed at the rows, or `err` at their count.
-abbrev pub BreaksNever : Excluded → Given → NeverRequest → Logs → Logs → Type 0
-BreaksNever shut_out g r old new =
-    (ListsNever shut_out g (PutsPrefix old.out new.out) × IsReported g old.err new.err fault.Write)
-    ⊎ CountsNever shut_out g r old.out new.out (PutsPrefix old.err new.err)
-
--- ---- what some state switches on
-
--- The names are those of the variables. There is a state as well, and its moment, which make no difference.
-abbrev pub IsAskedOfAll : Given → PossibleRequest → Question → Type 0
-IsAskedOfAll g r = IsNamed g (string_bytes r.coil) None r.all_inputs (map string_bytes r.inputs.items)
-
--- which states count: all, or those in which the coil is OFF, and in which it is so what stays so
-abbrev pub counted : Bool → Option Staying → States
-counted true staying = record { before = before.Off; staying = staying }
-counted false staying = record { before = before.Any; staying = staying }
-
--- What stays so from the state on: nothing is asked for, or it is settled, with all that one scan settles, and it is so in each state that a run
--- reaches.
-abbrev pub IsStayingBy : Bool → Drawing → Standing → Option Staying → Type 0
-IsStayingBy false p s staying = staying ≡ None
-IsStayingBy true p s staying = (known : Staying) × (staying ≡ Some known) × IsStaying p s known × AreReached p s known
-    × HasToldApart p s known.steady known.apart
-
--- what a row claims of its number: that every state that counts leaves the coil ON, or that some one does
-abbrev pub claimed : Bool → Claim
-claimed true = claim.Forced
-claimed false = claim.Possible
-
--- No more rows than the limit allows, and, where they are counted, all or as many as it allows: below a number each one of which the claim holds
--- has a row, and the claim holds of each row that is settled. It is of each state, or of those in which it is so what stays so.
-pub record PossibleList (r : PossibleRequest) (q : Question) (text : List ℕ) (c : Option ListCounts) : Type 0 where
-  pub accepted : refusal q None ≡ None
-  pub staying : Option Staying
-  pub stays : IsStayingBy r.reachable q.program q.state staying
-  pub rows : List PossibleCause
-  pub few : AreFew r.limit rows
-  pub to : ℕ
-  pub are : AreRows q.program q.coil q.listed (counted r.off staying) (claimed r.must) 0 to rows
-  pub written : text ≡ possible_text q.program q.listed rows
-  pub all : IfSome c (λ _. (to ≡ 2 ^ length q.listed) ⊎ (r.limit ≡ Some (length rows)))
-  pub count : IfSome c (λ n. n ≡ counts.Possible (record { rows = length rows; unsettled = count_by (λ row. not row.is_settled) rows }))
-
--- ---- what some state switches on, in groups
-
--- the first rule that is broken: groups are of fewer inputs than other lists, and too many are told in the same way
-abbrev pub possible_group_refusal : Question → Option CauseFault
-possible_group_refusal q = if nat_lt BITS_LIMIT (length q.listed) then Some cause.TooManyFree else refusal q None
-
--- how many rows there are, how many numbers of k bits they stand for, and how many of these aren't settled
-abbrev pub possible_group_counts : ℕ → List ClassGroup → ListCounts
-possible_group_counts k groups =
-    counts.PossibleGroups (record { rows = length groups; causes = numbers_in k groups; unsettled = unsettled_in k groups })
-
--- The groups, or the first of them where there is a limit. They are of numbers that are judged: the claim holds of each number of a settled
--- group, and each number that is in no group is denied.
-pub record PossibleGroupList (r : PossibleRequest) (q : Question) (text : List ℕ) (c : Option ListCounts) : Type 0 where
-  pub accepted : possible_group_refusal q ≡ None
-  pub staying : Option Staying
-  pub stays : IsStayingBy r.reachable q.program q.state staying
-  pub groups : List ClassGroup
-  pub are : ArePossibleGroups q.program q.coil q.listed (counted r.off staying) (claimed r.must) groups
-  pub written : text ≡ possible_group_text q.program q.listed (limited r.limit groups)
-  pub count : IfSome c (λ n. n ≡ possible_group_counts (length q.listed) (limited r.limit groups))
-
--- ---- what some state switches on, in groups or not
-
-abbrev pub PossibleBy : Bool → PossibleRequest → Form
-PossibleBy true = PossibleGroupList
-PossibleBy false = PossibleList
-
-abbrev pub possible_refusal_by : Bool → Question → Option CauseFault
-possible_refusal_by true q = possible_group_refusal q
-possible_refusal_by false q = refusal q None
-
-abbrev pub CountsPossible : Given → PossibleRequest → WriteLog → WriteLog → (List ℕ → Type 0) → Type 0
-CountsPossible g r = Ends (ListsAsked (IsAskedOfAll g r) (PossibleBy r.grouped r)) r.quiet
-
-abbrev pub BreaksPossible : Given → PossibleRequest → Logs → Logs → Type 0
-BreaksPossible g r = BreaksOff g (ListsAsked (IsAskedOfAll g r) (PossibleBy r.grouped r)) r.quiet
-
-abbrev pub HasPossibleFault : Given → PossibleRequest → ToolFault → Type 0
-HasPossibleFault g r = HasAskedFault g (string_bytes r.coil ∷ map string_bytes r.inputs.items) (IsAskedOfAll g r)
-    (λ q. HasCauseFault (possible_refusal_by r.grouped q))
 
 -- ---- a list of causes in groups
 

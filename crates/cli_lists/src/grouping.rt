@@ -4,19 +4,17 @@ ghost use Rattle.std.specs.Prelude.{◌≡◌, ◌≤◌, ◌⊎◌, IfErr, IfOk
 ghost use Rattle.scan_cycle.specs.Standing.{Fits};
 ghost use Rattle.causes_query.specs.Refusal.{reason, refusal};
 ghost use Rattle.io_text.specs.Log.{PutsAll, WriteLog};
-ghost use Rattle.cli_lists.specs.Query.{question_of};
+ghost use Rattle.cli_questions.specs.Query.{question_of};
 ghost use Rattle.cli_inputs.specs.Reports.{Refuses, logs};
 ghost use Rattle.cli_lists.specs.Lists.{BreaksGroups, CountsGroups, HasListFault, form_on, ordered};
 ghost use Rattle.cli_inputs.specs.Setting.{given_by};
 
-use crate::asking::ListQuery;
-use crate::counting::ListCounts;
-use crate::ending::{ListForm, list_request};
 use causes_one_scan::laws::orders;
 use causes_one_scan::{Groups, sifted};
 use causes_query::CauseFault;
 use cli_arguments::{GroupFormat, Grouping, InputOrder, ListRequest};
 use cli_inputs::{Texts, ToolFault};
+use cli_questions::{ListCounts, ListForm, ListQuery, list_request};
 use io_text::Sink;
 use std::alloc::Global;
 use text_causes::{GroupForm, write_groups};
@@ -72,10 +70,10 @@ impl ListForm for GroupRows {
     fn write<O: Sink>(
         &self,
         alloc: Global,
-        mut asked: ListQuery,
+        asked: &mut ListQuery,
         out: &mut O,
     ) -> Result<ListCounts, ToolFault> {
-        match put_in_order(alloc, &mut asked, self.how.order) {
+        match put_in_order(alloc, asked, self.how.order) {
             Ok(()) => (),
             Err(fault) => return Err(ToolFault::Cause(fault)),
         }
@@ -93,7 +91,9 @@ impl ListForm for GroupRows {
             Err(fault) => return Err(ToolFault::Cause(fault)),
         };
         let form = form_of(self.how.form, asked.coil);
-        match write_groups(&mut groups, form, self.limit, out) {
+        let written = write_groups(&mut groups, form, self.limit, out);
+        drop(groups);
+        match written {
             Ok(summary) => Ok(ListCounts::Groups(summary)),
             Err(_) => Err(ToolFault::Write),
         }

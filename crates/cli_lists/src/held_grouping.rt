@@ -3,12 +3,10 @@
 ghost use Rattle.std.specs.Prelude.{◌≡◌};
 ghost use Rattle.cli_lists.specs.Lists.{held_fault, held_group_fault};
 
-use crate::asking::ListQuery;
-use crate::counting::ListCounts;
-use crate::ending::ListForm;
 use causes_held::{HeldGroupFault, HeldGroups};
 use causes_query::CauseFault;
 use cli_inputs::ToolFault;
+use cli_questions::{ListCounts, ListForm, ListQuery};
 use io_text::Sink;
 use scan_held::{HeldFault, Scans};
 use std::alloc::Global;
@@ -52,7 +50,7 @@ impl ListForm for HeldGroupRows {
     fn write<O: Sink>(
         &self,
         alloc: Global,
-        asked: ListQuery,
+        asked: &mut ListQuery,
         out: &mut O,
     ) -> Result<ListCounts, ToolFault> {
         let made = HeldGroups::new(
@@ -68,7 +66,9 @@ impl ListForm for HeldGroupRows {
             Ok(groups) => groups,
             Err(fault) => return Err(held_group_fault(fault)),
         };
-        match write_held_groups(&mut groups, self.limit, out) {
+        let written = write_held_groups(&mut groups, self.limit, out);
+        drop(groups);
+        match written {
             Ok(summary) => Ok(ListCounts::Groups(summary)),
             Err(_) => Err(ToolFault::Write),
         }

@@ -4,21 +4,19 @@ ghost use Rattle.std.specs.Prelude.{◌≡◌, ◌≤◌, ◌⊎◌, IfErr, IfOk
 ghost use Rattle.io_text.specs.Log.{PutsAll, WriteLog};
 ghost use Rattle.causes_one_scan.specs.Cursor.{first_number, looks_of, searched};
 ghost use Rattle.causes_one_scan.specs.Prefixes.{search_of};
-ghost use Rattle.cli_lists.specs.Query.{question_of};
+ghost use Rattle.cli_questions.specs.Query.{question_of};
 ghost use Rattle.cli_lists.specs.Lists.{BreaksList, CountsList, HasListFault, end_refusal, list_refusal};
 ghost use Rattle.causes_query.specs.Causes.{causes_after};
 ghost use Rattle.scan_cycle.specs.Standing.{Fits};
 ghost use Rattle.cli_inputs.specs.Reports.{HasCauseFault, Refuses, logs};
 ghost use Rattle.cli_inputs.specs.Setting.{given_by};
 
-use crate::asking::ListQuery;
-use crate::counting::ListCounts;
-use crate::ending::{ListForm, list_request};
 use causes_one_scan::Causes;
 use causes_query::CauseFault;
 use causes_query::refusal::refusal;
 use cli_arguments::ListRequest;
 use cli_inputs::{Texts, ToolFault};
+use cli_questions::{ListCounts, ListForm, ListQuery, list_request};
 use io_text::Sink;
 use std::alloc::Global;
 use text_causes::write_upto;
@@ -88,14 +86,16 @@ impl ListForm for CauseRows {
     fn write<O: Sink>(
         &self,
         alloc: Global,
-        asked: ListQuery,
+        asked: &mut ListQuery,
         out: &mut O,
     ) -> Result<ListCounts, ToolFault> {
-        let mut causes = match cursor_of(alloc, *self, &asked) {
+        let mut causes = match cursor_of(alloc, *self, asked) {
             Ok(causes) => causes,
             Err(fault) => return Err(ToolFault::Cause(fault)),
         };
-        match write_upto(&mut causes, self.upto, self.limit, out) {
+        let written = write_upto(&mut causes, self.upto, self.limit, out);
+        drop(causes);
+        match written {
             Ok(summary) => Ok(ListCounts::Causes(summary)),
             Err(_) => Err(ToolFault::Write),
         }

@@ -2,17 +2,17 @@
 
 ghost use Rattle.std.specs.Prelude.{◌≡◌, ◌≢◌, ◌≤◌, ◌⊎◌};
 ghost use Rattle.io_text.specs.Log.{WriteLog};
-ghost use Rattle.cli_lists.specs.Query.{question_of};
-ghost use Rattle.cli_lists.specs.Lists.{BreaksProgress, CountsProgress, HasListFault, IsAsked};
+ghost use Rattle.cli_questions.specs.Query.{question_of};
+ghost use Rattle.cli_questions.specs.Ending.{IsAsked};
+ghost use Rattle.cli_lists.specs.Lists.{BreaksProgress, CountsProgress, HasListFault};
 ghost use Rattle.scan_cycle.specs.Standing.{Fits};
 ghost use Rattle.cli_inputs.specs.Reports.{IsReported, Refuses, logs};
 ghost use Rattle.cli_inputs.specs.Setting.{given_by};
 
-use crate::asking::{ListQuery, read_request};
-use crate::counting::{ListCounts, put_counts};
 use crate::listing::{CauseRows, cursor_of};
 use cli_arguments::ListRequest;
 use cli_inputs::{Texts, ToolFault, report};
+use cli_questions::{ListCounts, ListQuery, put_counts, read_request};
 use io_text::Sink;
 use std::alloc::Global;
 use text_causes::{ProgressFault, write_progress};

@@ -3,18 +3,17 @@
 ghost use Rattle.std.specs.Prelude.{◌≡◌, ◌≤◌, ◌⊎◌, IfErr, IfOk};
 ghost use Rattle.scan_cycle.specs.Standing.{Fits};
 ghost use Rattle.io_text.specs.Log.{PutsAll, WriteLog};
-ghost use Rattle.cli_lists.specs.Query.{question_of};
+ghost use Rattle.cli_questions.specs.Query.{question_of};
 ghost use Rattle.cli_lists.specs.Lists.{BreaksRelevant, CountsRelevant, HasCoilFault, HasRelevantFault, IsDecided, after_for};
 ghost use Rattle.cli_inputs.specs.Reports.{Refuses, logs};
 ghost use Rattle.cli_inputs.specs.Setting.{given_by};
 
-use crate::asking::{ListQuery, read_question};
-use crate::ending::list_asked;
 use crate::grouping::GroupRows;
 use crate::listing::CauseRows;
 use causes_one_scan::relevant_inputs;
 use cli_arguments::{Grouping, ListRequest};
 use cli_inputs::{Texts, ToolFault, report};
+use cli_questions::{ListQuery, list_asked, read_question};
 use io_text::Sink;
 use std::alloc::Global;
 
@@ -62,7 +61,7 @@ pub fn list_relevant<O: Sink, E: Sink>(
         → Refuses (given_by texts.now) (HasRelevantFault (given_by texts.now) request.now (after_for after grouping)) (logs (O.log out.old) save (E.log err.old)) (logs (O.log out.new) save (E.log err.new))
         ⊎ BreaksRelevant (given_by texts.now) request.now after grouping (logs (O.log out.old) save (E.log err.old)) (logs (O.log out.new) save (E.log err.new)) }
 {
-    let asked = match read_decided(alloc, request, texts) {
+    let mut asked = match read_decided(alloc, request, texts) {
         Ok(asked) => asked,
         Err(fault) => return report(texts, &fault, err),
     };
@@ -70,12 +69,12 @@ pub fn list_relevant<O: Sink, E: Sink>(
     match grouping {
         Some(how) => {
             let form = GroupRows { how, limit };
-            list_asked(alloc, &form, asked, quiet, texts, out, err)
+            list_asked(alloc, &form, &mut asked, quiet, texts, out, err)
         }
         None => {
             let upto = None;
             let form = CauseRows { after, upto, limit };
-            list_asked(alloc, &form, asked, quiet, texts, out, err)
+            list_asked(alloc, &form, &mut asked, quiet, texts, out, err)
         }
     }
 }

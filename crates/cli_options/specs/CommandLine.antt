@@ -1,10 +1,10 @@
 -- The command line, as clap's definitions of a simple command read it: `ladder check [--warn] FILE`,
 -- `ladder causes [--state STATE] [--at MS] [--after N] [--upto N] [--limit N] [--scans N] [--every MS] [--grouped] [--terms] [--st] [--order ORDER] [--relevant] [--all-inputs] [--progress] [--quiet] FILE COIL [INPUT]...`,
--- `ladder causes --any [--off] [--must] [--reachable] [--looks N] [--limit N] [--all-inputs] [--quiet] FILE COIL [INPUT]...`,
+-- `ladder causes --any [--off] [--must] [--reachable] [--looks N] [--runs [--states N] [--state STATE]] [--limit N] [--all-inputs] [--quiet] FILE COIL [INPUT]...`,
 -- each with `--all-coils FOLDER` in place of COIL,
 -- `ladder show [--state STATE] [--at MS] [--number N] [--stimulus STIMULUS] [--html] [--coil COIL] [--all-inputs] FILE [INPUT]...`,
 -- `ladder sim [--state STATE] [--save STATE] [--every MS] [--watch NAME]... [--watch-all] [--vcd] FILE STIMULUS`, `ladder uses FILE` and `ladder never [--state STATE] [--off] [--pairs] [--quiet] FILE`, each with `[--aliases] [--why]`;
--- `ladder reach [--state STATE] [--at MS] [--every MS] [--scans N] [--states N] [--both NAME] [--gap MS] [--why] FILE NAME [INPUT]...`;
+-- `ladder reach [--state STATE] [--at MS] [--every MS] [--scans N] [--states N] [--both NAME] [--gap MS] [--progress] [--why] FILE NAME [INPUT]...`;
 -- `ladder import [--open] [--control on] [--hal FILE] [--why] PROJECT`;
 -- and `ladder explain [CODE]...`.
 use Rattle.std.specs.Prelude.{◌≡◌, List, Some, [], ◌∷◌, codes, true, false}
@@ -67,7 +67,7 @@ never_app = taking (codes "never") (text_rule (codes "state") ∷ flag_rule (cod
 abbrev pub reach_app : App
 reach_app = taking (codes "reach") (
     text_rule (codes "state") ∷ number_rule (codes "at") ∷ positive_rule (codes "every") ∷ positive_rule (codes "scans") ∷ small_rule (codes "states")
-    ∷ text_rule (codes "both") ∷ number_rule (codes "gap") ∷ flag_rule (codes "why") ∷ place_rule (codes "file") ∷ place_rule (codes "name") ∷ list_rule (codes "inputs") ∷ []
+    ∷ text_rule (codes "both") ∷ number_rule (codes "gap") ∷ flag_rule (codes "progress") ∷ flag_rule (codes "why") ∷ place_rule (codes "file") ∷ place_rule (codes "name") ∷ list_rule (codes "inputs") ∷ []
     )
 
 abbrev pub causes_app : App
@@ -76,6 +76,7 @@ causes_app = taking (codes "causes") (
     ∷ number_rule (codes "scans") ∷ number_rule (codes "for") ∷ number_rule (codes "every") ∷ flag_rule (codes "grouped") ∷ flag_rule (codes "terms") ∷ flag_rule (codes "st") ∷ text_rule (codes "order")
     ∷ flag_rule (codes "any") ∷ flag_rule (codes "off") ∷ flag_rule (codes "must")
     ∷ flag_rule (codes "reachable") ∷ small_rule (codes "looks")
+    ∷ flag_rule (codes "runs") ∷ small_rule (codes "states")
     ∷ flag_rule (codes "relevant") ∷ flag_rule (codes "all-inputs") ∷ text_rule (codes "all-coils") ∷ flag_rule (codes "progress") ∷ flag_rule (codes "quiet") ∷ flag_rule (codes "aliases") ∷ flag_rule (codes "why") ∷ place_rule (codes "file") ∷ free_place_rule (codes "coil") ∷ list_rule (codes "inputs") ∷ []
     )
 

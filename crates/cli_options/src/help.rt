@@ -60,6 +60,9 @@ pub(crate) const REACH_BOTH_HELP: &str =
 pub(crate) const REACH_GAP_HELP: &str =
     "How far apart the scans are where they can be, in ms; without it 10; not with --every";
 
+pub(crate) const REACH_PROGRESS_HELP: &str =
+    "Tells on standard error, about once a second, how far the search is: `states M scans N`";
+
 pub(crate) const REACH_NAME_HELP: &str =
     "What is to come ON: a variable that a coil writes, or the output of a block (T1.Q), in any letter case";
 
@@ -184,7 +187,7 @@ pub(crate) const ORDER_HELP: &str =
     "With --grouped: `auto` looks for an order of the inputs with fewer groups, `given` keeps that of the list (as without it)";
 
 pub(crate) const ANY_HELP: &str =
-    "Lists what some state, at some moment, switches on: a row for each such assignment, marked ? where that isn't settled; not with --state, --at, --after, --scans, --for or --every";
+    "Lists what some state, at some moment, switches on: a row for each such assignment, marked ? where that isn't settled; not with --at, --after, --scans, --for or --every, and with --state only where --runs is given";
 
 pub(crate) const OFF_HELP: &str =
     "With --any: counts only states in which the coil is OFF, so lists what can switch it ON";
@@ -197,3 +200,9 @@ pub(crate) const REACHABLE_HELP: &str =
 
 pub(crate) const LOOKS_HELP: &str =
     "With --any: how many scans a search for one row makes at most, up to 4294967295; without it 4096";
+
+pub(crate) const RUNS_HELP: &str =
+    "With --any: asks of each row whether a run from the fresh state, or from STATE, comes to it; the row is marked r where one does, goes away where none does, and keeps its 1 or ? where that isn't settled; not with --off, --must or --grouped";
+
+pub(crate) const RUN_STATES_HELP: &str =
+    "With --runs: how many states the search of one row keeps at most, up to 4294967295; without it 100000";

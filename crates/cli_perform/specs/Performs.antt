@@ -11,7 +11,9 @@ use Rattle.cli_inputs.specs.Setting.{Given, HasProgramFault, HasSettingFault}
 use Rattle.cli_inputs.specs.Reports.{IsReported, Logs, Refuses}
 use Rattle.clp_project.specs.declared.reading.ReadingOptions.{ReadingOptions}
 use Rattle.cli_import.specs.Carrying.{BreaksCarrying, Carries}
-use Rattle.cli_lists.specs.Lists.{BreaksGroups, BreaksHeldBy, BreaksList, BreaksNever, BreaksPossible, BreaksProgress, BreaksRelevant, CountsGroups, CountsHeldBy, CountsList, CountsNever, CountsPossible, CountsProgress, CountsRelevant, HasHeldFaultBy, HasListFault, HasNeverFault, HasPossibleFault, HasRelevantFault, after_for, scans_of}
+use Rattle.cli_lists.specs.Lists.{BreaksGroups, BreaksHeldBy, BreaksList, BreaksProgress, BreaksRelevant, CountsGroups, CountsHeldBy, CountsList, CountsProgress, CountsRelevant, HasHeldFaultBy, HasListFault, HasRelevantFault, after_for, scans_of}
+use Rattle.cli_states.specs.AnyState.{BreaksPossible, CountsPossible, HasPossibleFault}
+use Rattle.cli_states.specs.Never.{BreaksNever, CountsNever, HasNeverFault}
 use Rattle.cli_reach.specs.Asking.{HasReachFault}
 use Rattle.cli_reach.specs.Reaching.{BreaksReach, TellsFound}
 use Rattle.cli_views.specs.Views.{BreaksFilm, BreaksTrace, BreaksWatch, BreaksWaves, Checks, HasFilmFault, HasShowFault, HasWatchFault, IsFilmed, IsTraced, IsWatched, IsWaved, Prints, Shows}

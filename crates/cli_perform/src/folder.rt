@@ -7,7 +7,7 @@ use crate::coil::perform_coil;
 use crate::files::read_texts;
 use crate::opening::readers_of;
 use crate::saving::followed;
-use cli_arguments::{AllCoils, CommandLine, GroupFormat, Request};
+use cli_arguments::{AllCoils, CommandLine, GroupFormat, Request, RunsWanted};
 use cli_inputs::{Texts, ToolFault, report, report_unread};
 use io_text::CountedWriter;
 use std::alloc::{AllocError, Global};
@@ -93,8 +93,16 @@ fn state_of(request: &Request) -> Option<&str> {
             Some(path) => Some(path.as_str()),
             None => None,
         },
-        Request::Possible(_)
-        | Request::Check { .. }
+        Request::Possible(possible) => match &possible.runs {
+            Some(
+                RunsWanted {
+                    state: Some(path),
+                    ..
+                },
+            ) => Some(path.as_str()),
+            Some(_) | None => None,
+        },
+        Request::Check { .. }
         | Request::Never(_)
         | Request::Reach(_)
         | Request::Show(_)

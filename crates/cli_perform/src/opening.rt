@@ -105,7 +105,10 @@ pub(crate) fn readers_of<'a>(
         | Request::Held { list, .. }
         | Request::Groups { list, .. }
         | Request::Relevant { list, .. } => from_state(rt, list.file.as_str(), &list.state),
-        Request::Possible(possible) => alone(rt, possible.file.as_str()),
+        Request::Possible(possible) => match &possible.runs {
+            Some(runs) => from_state(rt, possible.file.as_str(), &runs.state),
+            None => alone(rt, possible.file.as_str()),
+        },
         Request::Never(never) => from_state(rt, never.file.as_str(), &never.state),
         Request::Reach(reach) => from_state(rt, reach.file.as_str(), &reach.state),
         Request::Show(show) => from_state(rt, show.file.as_str(), &show.state),

@@ -10,10 +10,9 @@ ghost use Rattle.cli_inputs.specs.Setting.{given_by};
 use cli_arguments::Request;
 use cli_import::carry;
 use cli_inputs::Texts;
-use cli_lists::{
-    list_causes, list_groups, list_held, list_never, list_possible, list_progress, list_relevant,
-};
+use cli_lists::{list_causes, list_groups, list_held, list_progress, list_relevant};
 use cli_reach::reach;
+use cli_states::{list_never, list_possible};
 use cli_views::{About, film, print, show, trace, watch, wave};
 use clp_project::ReadingOptions;
 use io_text::Sink;

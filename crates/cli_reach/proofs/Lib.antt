@@ -1,2 +1,2 @@
 mod Replayed
-mod ShutOut
+mod TellingSteps

@@ -1,5 +1,5 @@
 -- What a request for a run asks, and why it is refused.
-use Rattle.std.specs.Prelude.{◌≡◌, ◌⊎◌, ◌&&◌, ℕ, Bool, true, false, not, nat_lt, List, [], ◌∷◌, Option, None, find, map, slice_index_or, string_bytes, unwrap_or}
+use Rattle.std.specs.Prelude.{◌≡◌, ◌⊎◌, ℕ, Bool, true, false, not, nat_lt, List, [], ◌∷◌, Option, None, find, map, slice_index_or, string_bytes, unwrap_or}
 use Rattle.std.specs.List.{list_all}
 use Rattle.diagram_declarations.specs.declared.decls.Symbol.{Symbol}
 use Rattle.diagram_declarations.specs.declared.decls.Symbol.TheVariants as symbol
@@ -43,7 +43,7 @@ question_of a = record {
   from = a.from;
   timing = a.timing;
   listed = a.inputs.items;
-  target = a.target;
+  target = a.target.items;
 }
 
 -- The program and the state are those of the texts. The scans are from the moment on that is given, or else from the stored one. The inputs
@@ -67,7 +67,7 @@ abbrev pub is_broken : RunQuestion → CauseFault → Bool
 -- the moment asked is before the stored one
 is_broken q MomentBack = nat_lt q.from q.state.moment
 -- no coil writes a variable that is to be ON
-is_broken q NotACoil = not (is_written q.program q.target.first && is_written q.program q.target.second)
+is_broken q NotACoil = not (list_all (λ literal. is_written q.program literal.symbol) q.target)
 -- not all that are listed are inputs
 is_broken q NotAnInput = not (list_all (λ var. slice_index_or (map is_input q.program.decls.vars) var false) q.listed)
 -- one is listed twice

@@ -4,11 +4,7 @@ use Rattle.io_text.specs.Left.{Fields}
 use Rattle.io_text.specs.Text.{records_of}
 use Rattle.scan_cycle.specs.Runs.{OneScan}
 use Rattle.reach_runs.specs.Asking.{NeverOn, RunQuestion, StaysOff, SwitchesOn}
-use Rattle.diagram_declarations.specs.declared.decls.Symbol.{Symbol}
-use Rattle.diagram_declarations.specs.declared.decls.Symbol.TheVariants as symbol
 use Rattle.diagram_program.specs.Program.{Drawing}
-use Rattle.invariant_sets.specs.Never.{Bits, claims}
-use Rattle.scan_signals.specs.declared.tri.Tri.{Tri}
 use Rattle.reach_search.specs.declared.seeking.Verdict.{Verdict}
 use Rattle.reach_search.specs.declared.seeking.Verdict.TheVariants as verdict
 use Rattle.reach_runs.specs.declared.timing.Timing.{Timing}
@@ -63,8 +59,3 @@ states_words states = codes " states " ++ (decimal states ++ codes "\n")
 -- `run scans N states M`, `none states M`, `none scans N states M`, `unsettled scans N states M`
 abbrev pub found_line : Found → ℕ → List ℕ
 found_line found states = found_words found ++ states_words states
-
--- Private to the search: what a set claims of a symbol.
-abbrev pub claim_of : Bits → Symbol → Tri
-claim_of z (symbol.Var var) = claims z.variables var
-claim_of z (symbol.Instance inst) = claims z.instances inst

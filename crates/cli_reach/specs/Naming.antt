@@ -1,5 +1,5 @@
 -- What the names of a request for a run are of.
-use Rattle.std.specs.Prelude.{◌≡◌, ◌⊎◌, ◌+◌, ◌-◌, ℕ, Bool, true, false, List, Option, Some, None, codes, if◌then◌else◌, length, map, option_and_then, option_map, slice_get, string_bytes, take}
+use Rattle.std.specs.Prelude.{◌≡◌, ◌⊎◌, ◌+◌, ◌-◌, ℕ, Bool, true, false, List, [], ◌∷◌, Option, Some, None, codes, if◌then◌else◌, length, map, option_and_then, option_map, slice_get, string_bytes, take}
 use Rattle.std.specs.Option.{option_map_or}
 use Rattle.diagram_declarations.specs.declared.kind.Output.{Output}
 use Rattle.diagram_declarations.specs.declared.kind.Output.TheVariants as output
@@ -9,7 +9,7 @@ use Rattle.diagram_declarations.specs.declared.decls.Symbol.{Symbol}
 use Rattle.diagram_declarations.specs.declared.decls.Symbol.TheVariants as symbol
 use Rattle.diagram_declarations.specs.Decls.{Declared, find}
 use Rattle.diagram_declarations.specs.Name.{is_name}
-use Rattle.invariant_cases.specs.declared.pair.Pair.{Pair}
+use Rattle.reach_runs.specs.declared.target.Literal.{Literal}
 use Rattle.cli_arguments.specs.declared.request.ReachRequest.{ReachRequest}
 use Rattle.cli_inputs.specs.Variables.{IsUnknownWord}
 use Rattle.cli_inputs.specs.declared.fault.ToolFault.{ToolFault}
@@ -50,22 +50,29 @@ symbol_of decls word = elim (before_end (codes ".Q") word) [
   ]
 ]
 
--- The second of a pair: what the name of `--both` is of, or else the first.
-abbrev pub IsSecond : Declared → Option (List ℕ) → Symbol → Symbol → Type 0
-IsSecond decls None first second = second ≡ first
-IsSecond decls (Some word) first second = symbol_of decls word ≡ Some second
+-- that it is ON
+abbrev pub on : Symbol → Literal
+on symbol = record { symbol = symbol; value = true }
 
--- what is to be ON: both of a pair, or one alone as a pair with itself
-pub record IsTarget (decls : Declared) (r : ReachRequest) (target : Pair) : Type 0 where
-  pub first : symbol_of decls (string_bytes r.name) ≡ Some target.first
-  pub second : IsSecond decls (option_map string_bytes r.both) target.first target.second
+-- What the name of `--both` is of, where there is one.
+abbrev pub AreOthers : Declared → Option (List ℕ) → List Symbol → Type 0
+AreOthers decls None others = others ≡ []
+AreOthers decls (Some word) others = (second : Symbol) × (symbol_of decls word ≡ Some second) × (others ≡ second ∷ [])
+
+-- what is to be ON: what NAME is of, and what the name of `--both` is of
+pub record IsTarget (decls : Declared) (r : ReachRequest) (target : List Literal) : Type 0 where
+  pub first : Symbol
+  pub others : List Symbol
+  pub named : symbol_of decls (string_bytes r.name) ≡ Some first
+  pub both : AreOthers decls (option_map string_bytes r.both) others
+  pub are : target ≡ map on (first ∷ others)
 
 -- The first name that is of nothing: NAME, which is word 1, that of `--both`, and then an INPUT, of which the first is word 2; or being out of
 -- memory.
 abbrev pub HasNameFault : Declared → ReachRequest → ToolFault → Type 0
 HasNameFault decls r (fault.Word number) =
     ((symbol_of decls (string_bytes r.name) ≡ None) × (number ≡ 1))
-    ⊎ ((target : Pair) × IsTarget decls r target × (at : ℕ) × IsUnknownWord decls (map string_bytes r.inputs.items) at × (number ≡ at + 1))
+    ⊎ ((target : List Literal) × IsTarget decls r target × (at : ℕ) × IsUnknownWord decls (map string_bytes r.inputs.items) at × (number ≡ at + 1))
 HasNameFault decls r fault.Both =
     ((first : Symbol) × (symbol_of decls (string_bytes r.name) ≡ Some first))
     × ((word : List ℕ) × (option_map string_bytes r.both ≡ Some word) × (symbol_of decls word ≡ None))

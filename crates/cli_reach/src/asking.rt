@@ -1,6 +1,6 @@
 //! What a request for a run asks.
 
-ghost use Rattle.std.specs.Prelude.{◌≡◌, ◌≤◌, IfErr, IfOk};
+ghost use Rattle.std.specs.Prelude.{◌≡◌, IfErr, IfOk};
 ghost use Rattle.scan_cycle.specs.Standing.{Fits};
 ghost use Rattle.reach_runs.specs.Asking.{question_of as run_question};
 ghost use Rattle.cli_inputs.specs.Setting.{given_by};
@@ -10,8 +10,7 @@ use crate::naming::{inputs_of, target_of};
 use cli_arguments::{Pace, ReachRequest};
 use cli_inputs::{Setting, Texts, ToolFault, moment, read_setting};
 use diagram_program::Program;
-use invariant_cases::Pair;
-use reach_runs::{RunQuery, Timing};
+use reach_runs::{Literal, RunQuery, Timing};
 use scan_cycle::State;
 use std::alloc::Global;
 
@@ -23,7 +22,7 @@ pub(crate) struct Asked {
     pub from: u64,
     pub timing: Timing,
     pub inputs: Vec<usize>,
-    pub target: Pair,
+    pub target: Vec<Literal>,
 }
 
 impl Asked {
@@ -37,7 +36,7 @@ impl Asked {
             from: self.from,
             timing: self.timing,
             listed: &self.inputs,
-            target: self.target,
+            target: &self.target,
         }
     }
 }
@@ -70,7 +69,7 @@ pub(crate) fn read_asked(
         Ok(setting) => setting,
         Err(fault) => return Err(fault),
     };
-    let target = match target_of(program.decls(), request) {
+    let target = match target_of(alloc, program.decls(), request) {
         Ok(target) => target,
         Err(fault) => return Err(fault),
     };

@@ -7,6 +7,7 @@ mod naming;
 mod reaching;
 mod refusing;
 mod replaying;
+mod seeking;
 mod telling;
 
 pub use finding::Found;

@@ -1,15 +1,15 @@
 //! What the names of a request for a run are of.
 
-ghost use Rattle.std.specs.Prelude.{◌≡◌, IfErr, IfOk, map, option_map, string_bytes};
+ghost use Rattle.std.specs.Prelude.{◌≡◌, IfErr, IfOk, List, map, option_map, string_bytes};
 ghost use Rattle.diagram_declarations.specs.declared.decls.Symbol.TheVariants as symbol;
 ghost use Rattle.cli_inputs.specs.Variables.{AreListed};
-ghost use Rattle.cli_reach.specs.Naming.{HasNameFault, IsTarget, before_end, declared_as, instance_of, instance_with, symbol_of};
+ghost use Rattle.cli_reach.specs.Naming.{HasNameFault, IsTarget, before_end, declared_as, instance_of, instance_with, on, symbol_of};
 ghost use Rattle.cli_reach.specs.Asking.{is_empty};
 
 use cli_arguments::ReachRequest;
 use cli_inputs::{ToolFault, shown_variables};
 use diagram_declarations::{Decls, Name, Output, Symbol, same_letters};
-use invariant_cases::Pair;
+use reach_runs::Literal;
 use std::alloc::Global;
 
 /// The word before this end, which is there in any letter case.
@@ -70,28 +70,50 @@ fn symbol_of(decls: &Decls, word: &str) -> Option<Symbol>
     declared_as(decls, bytes)
 }
 
+/// That it is ON.
+fn on(symbol: Symbol) -> Literal
+    ensures { result ≡ on symbol }
+{
+    Literal {
+        symbol,
+        value: true,
+    }
+}
+
+/// That some are ON.
+fn all_on(alloc: Global, symbols: &[Symbol]) -> Result<Vec<Literal>, ToolFault>
+    ensures on { IfOk result (λ v. v.items ≡ map on symbols.now) }
+    ensures fault { IfErr result (λ f. f ≡ ToolFault.Memory) }
+{
+    match symbols.iter().map(|symbol| on(*symbol)).collect(alloc) {
+        Ok(literals) => Ok(literals),
+        Err(_) => Err(ToolFault::Memory),
+    }
+}
+
 /// What is to be ON.
 ///
 /// # Errors
 ///
-/// `Word` with 1 where NAME is that of nothing, and `Both` where that of `--both` is.
-pub(crate) fn target_of(decls: &Decls, request: &ReachRequest) -> Result<Pair, ToolFault>
-    ensures target { IfOk result (IsTarget decls.now request.now) }
+/// `Word` with 1 where NAME is that of nothing, `Both` where that of `--both` is, or `Memory`.
+pub(crate) fn target_of(
+    alloc: Global,
+    decls: &Decls,
+    request: &ReachRequest,
+) -> Result<Vec<Literal>, ToolFault>
+    ensures target { IfOk result (λ v. IsTarget decls.now request.now v.items) }
     ensures fault { IfErr result (HasNameFault decls.now request.now) }
 {
     let Some(first) = symbol_of(decls, request.name.as_str()) else {
         return Err(ToolFault::Word { number: 1 });
     };
     let Some(word) = &request.both else {
-        return Ok(Pair {
-            first,
-            second: first,
-        });
+        return all_on(alloc, &[first]);
     };
-    match symbol_of(decls, word.as_str()) {
-        Some(second) => Ok(Pair { first, second }),
-        None => Err(ToolFault::Both),
-    }
+    let Some(second) = symbol_of(decls, word.as_str()) else {
+        return Err(ToolFault::Both);
+    };
+    all_on(alloc, &[first, second])
 }
 
 /// The inputs that change: those that are named, or all where none is.
@@ -105,7 +127,7 @@ pub(crate) fn inputs_of(
     request: &ReachRequest,
 ) -> Result<Vec<usize>, ToolFault>
     ensures inputs { IfOk result (λ v. AreListed decls.now (is_empty request.now.inputs.items) (map string_bytes request.now.inputs.items) v.items) }
-    ensures fault { (target : Pair) → IsTarget decls.now request.now target → IfErr result (HasNameFault decls.now request.now) }
+    ensures fault { (target : List Literal) → IsTarget decls.now request.now target → IfErr result (HasNameFault decls.now request.now) }
 {
     let inputs = request.inputs.as_slice();
     match shown_variables(alloc, decls, &None, inputs.is_empty(), inputs) {

@@ -11,6 +11,7 @@ ghost use Rattle.cli_reach.specs.Reaching.{BreaksReach, TellsFound};
 use crate::asking::{Asked, read_asked};
 use crate::finding::{found_of, sought_of};
 use crate::refusing::refusal;
+use crate::seeking::SearchFault;
 use crate::telling::{put_found, write_verdict};
 use cli_arguments::{Pace, ReachRequest};
 use cli_inputs::{Texts, ToolFault, report};
@@ -67,8 +68,10 @@ fn reach_asked<O: Sink, E: Sink>(
     if let Some(fault) = refusal(asked) {
         return report(texts, &ToolFault::Cause(fault), err);
     }
-    let Ok(sought) = sought_of(alloc, asked, limits_of(request)) else {
-        return report(texts, &ToolFault::Memory, err);
+    let sought = match sought_of(alloc, asked, limits_of(request), request.progress, err) {
+        Ok(sought) => sought,
+        Err(SearchFault::Memory) => return report(texts, &ToolFault::Memory, err),
+        Err(SearchFault::Write) => return 1,
     };
     let found = found_of(asked, &sought, most_of(request.pace));
     let Ok(()) = write_verdict(asked.timing, &asked.program, &sought.verdict, out) else {

@@ -10,6 +10,7 @@ use crate::asking::Asked;
 use causes_query::CauseFault;
 use diagram_declarations::Symbol;
 use diagram_program::Program;
+use reach_runs::Literal;
 
 /// Whether a coil writes the variable; the output of an instance is written where it is drawn.
 fn is_written(program: &Program, symbol: Symbol) -> bool
@@ -19,6 +20,15 @@ fn is_written(program: &Program, symbol: Symbol) -> bool
         Symbol::Var(var) => program.has_coil(var),
         Symbol::Instance(_) => true,
     }
+}
+
+/// Whether all that is to be ON is written.
+fn are_written(program: &Program, target: &[Literal]) -> bool
+    ensures { result ≡ list_all (λ literal. is_written program.now literal.symbol) target.now }
+{
+    target
+        .iter()
+        .all(|literal| is_written(program, literal.symbol))
 }
 
 /// Whether this is the number of an input.
@@ -59,7 +69,7 @@ pub(crate) fn refusal(asked: &Asked) -> Option<CauseFault>
     if asked.from < asked.state.moment() {
         return Some(CauseFault::MomentBack);
     }
-    if !(is_written(program, asked.target.first) && is_written(program, asked.target.second)) {
+    if !are_written(program, &asked.target) {
         return Some(CauseFault::NotACoil);
     }
     if !are_inputs(program, &asked.inputs) {

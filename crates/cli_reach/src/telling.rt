@@ -2,6 +2,7 @@
 
 ghost use Rattle.std.specs.Prelude.{◌++◌, decimal};
 ghost use Rattle.io_text.specs.Log.{Puts};
+ghost use Rattle.cli_reach.specs.Telling.{step, step_line};
 ghost use Rattle.cli_reach.specs.Finding.{found_line, found_words, states_words, text_of, verdict_text};
 
 use crate::finding::Found;
@@ -68,6 +69,20 @@ fn put_states<E: Sink>(states: u64, err: &mut E) -> Result<(), WriteFault>
     let pieces = [
         Piece::Text(b" states "),
         Piece::Number(states),
+        Piece::Text(b"\n"),
+    ];
+    put_pieces(err, pieces.as_slice())
+}
+
+/// Writes how far a search is: how many states it keeps, and that no run of at most so many scans switches the target on.
+pub(crate) fn put_step<E: Sink>(states: u64, scans: u64, err: &mut E) -> Result<(), WriteFault>
+    ensures { Puts (E.log err.old) (E.log err.new) result (step_line (step states scans)) }
+{
+    let pieces = [
+        Piece::Text(b"states "),
+        Piece::Number(states),
+        Piece::Text(b" scans "),
+        Piece::Number(scans),
         Piece::Text(b"\n"),
     ];
     put_pieces(err, pieces.as_slice())

@@ -6,7 +6,8 @@ use crate::traced::{Traced, TracedBlock};
 use crate::tracing::Trace;
 use diagram_declarations::Symbol;
 use diagram_program::Program;
-use invariant_cases::{Pair, Point};
+use invariant_cases::Point;
+use reach_runs::Literal;
 use scan_signals::Tri;
 
 /// What leaves a value open.
@@ -39,11 +40,10 @@ fn lead_of_symbol(trace: &Trace, symbol: Symbol) -> Option<Point> {
 }
 
 /// What leaves the target open after the scan.
-pub fn lead_of_target(trace: &Trace, target: Pair) -> Option<Point> {
-    match lead_of_symbol(trace, target.first) {
-        Some(point) => Some(point),
-        None => lead_of_symbol(trace, target.second),
-    }
+pub fn lead_of_target(trace: &Trace, target: &[Literal]) -> Option<Point> {
+    target
+        .iter()
+        .find_map(|literal| lead_of_symbol(trace, literal.symbol))
 }
 
 /// An input that leaves a kept variable open after the scan; what of the state does is noted.

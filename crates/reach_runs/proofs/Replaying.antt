@@ -10,10 +10,10 @@ use Rattle.scan_cycle.specs.Programs.{diagram_of}
 use Rattle.scan_cycle.specs.Rung.{Held}
 use Rattle.scan_cycle.specs.Runs.{OneScan, after_each}
 use Rattle.scan_cycle.specs.Scan.{after_scan}
-use Rattle.invariant_cases.specs.Allowing.{are_both_on}
+use Rattle.std.specs.List.{list_all}
 use Rattle.reach_runs.specs.declared.timing.Timing.{Timing}
 use Rattle.reach_runs.specs.declared.timing.Timing.TheVariants.{AnyMoments, Every}
-use Rattle.reach_runs.specs.Asking.{AreTimed, Gives, RunQuestion, SwitchesOn, is_on_after}
+use Rattle.reach_runs.specs.Asking.{AreTimed, Gives, RunQuestion, SwitchesOn, is_on_after, is_so}
 use Rattle.reach_runs.specs.Rhythm.{next_of}
 
 -- what one scan more leaves
@@ -114,13 +114,13 @@ module _ (q : RunQuestion) (scans : List OneScan) (n from : ℕ) (h g : Held) (x
       one.leaves ∙ ap (after_scan (diagram_of q.program) x.moment x.inputs) made.held
       ∙ sym (ap (λ (xs : List OneScan). after_each (diagram_of q.program) xs q.state.held) with_it ∙ one_last (diagram_of q.program) (take n scans) x q.state.held)
 
-  is_on : is_on_after q (take (n + 1) scans) ≡ are_both_on g q.target
-  is_on = ap (λ (s : Held). are_both_on s q.target) (sym left)
+  is_on : is_on_after q (take (n + 1) scans) ≡ list_all (is_so g) q.target
+  is_on = ap (λ (s : Held). list_all (is_so s) q.target) (sym left)
 
   all_given : All (λ scan. Gives q scan.inputs) (take (n + 1) scans)
   all_given = subst (All (λ scan. Gives q scan.inputs)) (sym with_it) (All-push (λ scan. Gives q scan.inputs) (take n scans) x made.given one.given)
 
-  pub one_made : are_both_on g q.target ≡ false → AreMade q scans (n + 1) (next_of q.timing x.moment) g
+  pub one_made : list_all (is_so g) q.target ≡ false → AreMade q scans (n + 1) (next_of q.timing x.moment) g
   one_made off = record {
     held = left;
     timed = λ more timed. subst (AreTimed q.timing q.from) (sym (with_more more)) (made.timed (x ∷ more) (timed_more q.timing from x more one.timed timed));
@@ -134,7 +134,7 @@ module _ (q : RunQuestion) (scans : List OneScan) (n from : ℕ) (h g : Held) (x
     ];
   }
 
-  pub is_switched : n + 1 ≡ length scans → are_both_on g q.target ≡ true → SwitchesOn q scans
+  pub is_switched : n + 1 ≡ length scans → list_all (is_so g) q.target ≡ true → SwitchesOn q scans
   is_switched end on =
       let all : take (n + 1) scans ≡ scans = take_all (n + 1) scans (omega (arith, end)) in
       record {
@@ -148,7 +148,7 @@ module _ (q : RunQuestion) (scans : List OneScan) (n from : ℕ) (h g : Held) (x
       }
 
   -- where the target is ON after it, it is the last one
-  pub is_last : are_both_on g q.target ≡ true → SwitchesOn q scans → n + 1 ≡ length scans
+  pub is_last : list_all (is_so g) q.target ≡ true → SwitchesOn q scans → n + 1 ≡ length scans
   is_last on switched = elim (cases_lt (n + 1) (length scans)) [
     | inl before ↦ absurd (both_ways (is_on_after q (take (n + 1) scans)) (switched.off (n + 1) (omega arith) before) (is_on ∙ on))
     | inr end ↦ omega (arith, end, one.there)

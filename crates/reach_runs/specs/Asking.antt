@@ -1,25 +1,32 @@
 -- What is asked of the runs from a state: whether one switches something on.
-use Rattle.std.specs.Prelude.{◌≡◌, ℕ, ◌+◌, ◌<◌, ◌≤◌, Bool, true, false, List, [], ◌∷◌, All, Contains, length, slice_index_or, take}
+use Rattle.std.specs.Prelude.{◌≡◌, ℕ, ◌+◌, ◌<◌, ◌≤◌, Bool, true, false, List, [], ◌∷◌, All, Contains, if◌then◌else◌, length, not, slice_index_or, take}
+use Rattle.std.specs.List.{list_all}
 use Rattle.diagram_program.specs.Program.{Drawing}
 use Rattle.scan_cycle.specs.Programs.{diagram_of}
+use Rattle.scan_cycle.specs.Rung.{Held}
 use Rattle.scan_cycle.specs.Runs.{IsRun, OneScan, after_each}
 use Rattle.scan_cycle.specs.Scan.{given}
 use Rattle.scan_cycle.specs.Standing.{Standing}
 use Rattle.causes_query.specs.Assignment.{input_variables}
-use Rattle.invariant_cases.specs.Allowing.{are_both_on}
-use Rattle.invariant_cases.specs.declared.pair.Pair.{Pair}
+use Rattle.invariant_cases.specs.Allowing.{is_on_in}
+use Rattle.invariant_cases.specs.Cases.{point_of}
 use Rattle.reach_runs.specs.declared.query.RunQuery.{RunQuery}
+use Rattle.reach_runs.specs.declared.target.Literal.{Literal}
 use Rattle.reach_runs.specs.declared.timing.Timing.{Timing}
 use Rattle.reach_runs.specs.declared.timing.Timing.TheVariants.{AnyMoments, Every}
 
--- The target is ON where both of the pair are. The scans begin at a moment, in a state; the listed inputs change.
+-- Whether the variable, or the output of the instance, has this value in a state.
+abbrev pub is_so : Held → Literal → Bool
+is_so h literal = if literal.value then is_on_in (point_of literal.symbol) h else not (is_on_in (point_of literal.symbol) h)
+
+-- The target is ON where each of the literals is so. The scans begin at a moment, in a state; the listed inputs change.
 pub record RunQuestion : Type 0 where
   pub program : Drawing
   pub state : Standing
   pub from : ℕ
   pub timing : Timing
   pub listed : List ℕ
-  pub target : Pair
+  pub target : List Literal
 
 abbrev pub question_of : RunQuery → RunQuestion
 question_of q = record {
@@ -28,7 +35,7 @@ question_of q = record {
   from = q.from;
   timing = q.timing;
   listed = q.listed.now;
-  target = q.target;
+  target = q.target.now;
 }
 
 -- The first scan is at this moment, and each other one comes this time after the one before it.
@@ -53,7 +60,7 @@ pub record IsAsked (q : RunQuestion) (scans : List OneScan) : Type 0 where
 
 -- The target is ON after these scans.
 abbrev pub is_on_after : RunQuestion → List OneScan → Bool
-is_on_after q scans = are_both_on (after_each (diagram_of q.program) scans q.state.held) q.target
+is_on_after q scans = list_all (is_so (after_each (diagram_of q.program) scans q.state.held)) q.target
 
 -- A run switches the target on with its last scan: it is ON after that one, and after none of those before it.
 pub record SwitchesOn (q : RunQuestion) (scans : List OneScan) : Type 0 where

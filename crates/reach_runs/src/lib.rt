@@ -4,9 +4,11 @@
 mod query;
 mod replay;
 mod run;
+mod target;
 mod timing;
 
 pub use query::RunQuery;
 pub use replay::switches_on;
 pub use run::RunScan;
+pub use target::Literal;
 pub use timing::Timing;

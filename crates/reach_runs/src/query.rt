@@ -1,8 +1,8 @@
 //! What is asked of the runs from a state.
 
+use crate::target::Literal;
 use crate::timing::Timing;
 use diagram_program::Program;
-use invariant_cases::Pair;
 use scan_cycle::State;
 
 /// What is asked of the runs from a state: whether one switches the target on.
@@ -15,6 +15,6 @@ pub struct RunQuery<'a> {
     pub timing: Timing,
     /// The inputs that change, as numbers of variables. The others keep what the state stores.
     pub listed: &'a [usize],
-    /// It is ON where both of the pair are.
-    pub target: Pair,
+    /// It is ON where each of these is so.
+    pub target: &'a [Literal],
 }

@@ -7,8 +7,8 @@ ghost use Rattle.reach_runs.specs.Rhythm.{next_after};
 
 use crate::query::RunQuery;
 use crate::run::RunScan;
+use crate::target::are_so;
 use crate::timing::Timing;
-use invariant_cases::points::are_both_on;
 use scan_cycle::{State, scan};
 
 /// Whether a scan may give an input a value: any, where it is listed, and otherwise the one that the state stores.
@@ -71,7 +71,7 @@ pub fn switches_on(query: RunQuery<'_>, state: &mut State, run: &[RunScan]) -> b
         let Ok(()) = scan(query.program, state, &one.inputs, one.moment) else {
             return false;
         };
-        let is_on = are_both_on(state, query.target);
+        let is_on = are_so(state, query.target);
         if is_on {
             return done + 1 == run.len();
         }

@@ -16,7 +16,7 @@ use Rattle.reach_states.specs.Allowing.{AllowsFrom, AllowsState, ScanAllows, is_
 use Rattle.reach_states.specs.Untimed.{untimed}
 use Rattle.reach_states.specs.declared.untimed.Untimed.{Untimed}
 use Rattle.reach_states.proofs.Splitting.{all_settled, none_waits, time_passes, waits_or_not}
-use Rattle.reach_search.specs.Visits.{Grows, IsIn, Leads, LeadsOn, Passes, both_told}
+use Rattle.reach_search.specs.Visits.{Grows, IsIn, Leads, LeadsOn, Passes, told_all}
 use Rattle.reach_search.specs.declared.state_set.StateSet.{StateSet}
 use Rattle.reach_search.proofs.Growing.{arrives_grown}
 use Rattle.reach_search.proofs.InputLaws.{either_input}
@@ -29,7 +29,7 @@ if_ok_both P Q R h (Err e) p q = tt
 
 -- after one scan
 pub leads_from : (q : RunQuestion) (set : StateSet) (before after : Known Tri Untimed) (inputs : List Tri) → ScanAllows (diagram_of q.program)
-    → after ≡ after_known three untimed (diagram_of q.program) 0 inputs before → both_told q.target after ≡ Off
+    → after ≡ after_known three untimed (diagram_of q.program) 0 inputs before → told_all after q.target ≡ Off
     → ((now : ℕ) (held : Held) → AllowsState q.timing (diagram_of q.program) now after held → IsIn q.timing (diagram_of q.program) set now held)
     → Leads q set (λ now. AllowsState q.timing (diagram_of q.program) now before) inputs
 leads_from q set before after inputs scan is off there = λ now h a xs b.

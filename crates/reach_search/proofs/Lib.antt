@@ -3,6 +3,8 @@ mod EqLaws
 mod Growing
 mod InputLaws
 mod Leading
+mod LevelLaws
 mod Reaching
 mod RowLaws
+mod ShutOut
 mod TargetLaws

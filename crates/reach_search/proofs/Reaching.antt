@@ -9,8 +9,8 @@ use Rattle.scan_cycle.specs.Runs.{IsRun, OneScan, after_each}
 use Rattle.scan_cycle.specs.Scan.{after_scan}
 use Rattle.scan_signals.specs.declared.tri.Tri.{Tri}
 use Rattle.scan_symbolic.specs.KnownScan.{Known}
-use Rattle.invariant_cases.specs.Allowing.{are_both_on}
-use Rattle.reach_runs.specs.Asking.{AreEvery, AreTimed, Gives, IsAsked, NeverOn, RunQuestion, StaysOff, is_on_after}
+use Rattle.std.specs.List.{list_all}
+use Rattle.reach_runs.specs.Asking.{AreEvery, AreTimed, Gives, IsAsked, NeverOn, RunQuestion, StaysOff, is_on_after, is_so}
 use Rattle.reach_runs.specs.declared.timing.Timing.{Timing}
 use Rattle.reach_runs.specs.declared.timing.Timing.TheVariants.{AnyMoments, Every}
 use Rattle.reach_states.specs.Allowing.{AllowsState}
@@ -85,7 +85,7 @@ module _ (q : RunQuestion) where
       let d = diagram_of q.program in
       let state = sym (after_more d front last q.state.held) in
       let moment = sym (last_more q.from front last) in (
-        subst (λ (h : Held). are_both_on h q.target ≡ false) state a.off,
+        subst (λ (h : Held). list_all (is_so h) q.target ≡ false) state a.off,
         subst (λ (m : ℕ). IsIn q.timing d set m (after_each d (front ++ last ∷ []) q.state.held)) moment
             (subst (λ (h : Held). IsIn q.timing d set last.moment h) state a.there),
       )

@@ -2,3 +2,5 @@ pub mod Tables
 pub mod Sets
 pub mod Visits
 pub mod Searches
+pub mod Levels
+pub mod Shutting

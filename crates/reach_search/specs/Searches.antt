@@ -1,5 +1,5 @@
 -- What a search is made with, and what it found.
-use Rattle.std.specs.Prelude.{◌≡◌, ◌<◌, ◌≤◌, ℕ, Bool, true, false, ◌==◌, if◌then◌else◌, List, [], ◌∷◌, length, slice_index_or}
+use Rattle.std.specs.Prelude.{◌≡◌, ◌<◌, ◌≤◌, ℕ, Bool, true, false, ◌==◌, if◌then◌else◌, List, [], ◌∷◌, length, slice_index_or, Option, None, Some}
 use Rattle.std.specs.List.{list_any}
 use Rattle.diagram_program.specs.Program.{Drawing}
 use Rattle.scan_signals.specs.Relations.{Both}
@@ -15,8 +15,8 @@ use Rattle.reach_runs.specs.Asking.{Gives, IsAsked, NeverOn, RunQuestion, Switch
 use Rattle.reach_search.specs.Sets.{IsSetFor}
 use Rattle.reach_search.specs.Visits.{IsIn}
 use Rattle.reach_search.specs.declared.search.Search.{Search}
-use Rattle.reach_search.specs.declared.seeking.Ending.{Ending}
-use Rattle.reach_search.specs.declared.seeking.Ending.TheVariants as ending
+use Rattle.reach_search.specs.declared.levels.Ending.{Ending}
+use Rattle.reach_search.specs.declared.levels.Ending.TheVariants as ending
 use Rattle.reach_search.specs.declared.seeking.Verdict.{Verdict}
 use Rattle.reach_search.specs.declared.seeking.Verdict.TheVariants.{Run, Never, Open}
 use Rattle.reach_search.specs.declared.state_set.StateSet.{StateSet}
@@ -61,11 +61,12 @@ is_end visit.Full = true
 is_end visit.Found = true
 is_end other = false
 
--- How a search ends whose last visit was so.
-abbrev pub ending_of : Visit → Ending
-ending_of visit.Found = ending.Found
-ending_of visit.Unclear = ending.Unclear
-ending_of other = ending.Open
+-- How a search ends whose last visit was so, if it does.
+abbrev pub end_of : Visit → Option Ending
+end_of visit.Found = Some ending.Found
+end_of visit.Unclear = Some ending.Unclear
+end_of visit.Full = Some ending.Open
+end_of other = None
 
 -- What is known of an input: it is open where it is listed, and otherwise has its stored value.
 abbrev pub input_value : RunQuestion → ℕ → Tri

@@ -1,5 +1,6 @@
 -- Scans that lead from states to states of a set, with the target OFF.
-use Rattle.std.specs.Prelude.{◌≡◌, ◌<◌, ◌≤◌, ℕ, ◌+◌, Bool, false, List}
+use Rattle.std.specs.Prelude.{◌≡◌, ◌<◌, ◌≤◌, ℕ, ◌+◌, Bool, false, fold, if◌then◌else◌, List, slice_index_or}
+use Rattle.std.specs.List.{list_all}
 use Rattle.diagram_declarations.specs.declared.decls.Symbol.{Symbol}
 use Rattle.diagram_declarations.specs.declared.decls.Symbol.TheVariants as symbol
 use Rattle.scan_cycle.specs.Cells.{Diagram}
@@ -7,14 +8,13 @@ use Rattle.scan_cycle.specs.Programs.{diagram_of}
 use Rattle.scan_cycle.specs.Rung.{Held}
 use Rattle.scan_cycle.specs.Scan.{after_scan}
 use Rattle.scan_signals.specs.Relations.{Both}
-use Rattle.scan_signals.specs.Three.{three_meet}
+use Rattle.scan_signals.specs.Three.{three_meet, three_inverse}
 use Rattle.scan_signals.specs.declared.tri.Tri.{Tri}
-use Rattle.scan_signals.specs.declared.tri.Tri.TheVariants.{Off}
+use Rattle.scan_signals.specs.declared.tri.Tri.TheVariants.{Off, On}
 use Rattle.scan_symbolic.specs.KnownScan.{Known, kept_at}
-use Rattle.std.specs.Prelude.{slice_index_or}
-use Rattle.invariant_cases.specs.Allowing.{Allows, are_both_on}
-use Rattle.invariant_cases.specs.declared.pair.Pair.{Pair}
-use Rattle.reach_runs.specs.Asking.{Gives, RunQuestion}
+use Rattle.invariant_cases.specs.Allowing.{Allows}
+use Rattle.reach_runs.specs.Asking.{Gives, RunQuestion, is_so}
+use Rattle.reach_runs.specs.declared.target.Literal.{Literal}
 use Rattle.reach_runs.specs.declared.timing.Timing.{Timing}
 use Rattle.reach_runs.specs.declared.timing.Timing.TheVariants.{AnyMoments, Every}
 use Rattle.reach_states.specs.Allowing.{AllowsState}
@@ -23,13 +23,16 @@ use Rattle.reach_states.specs.declared.untimed.Untimed.{Untimed}
 use Rattle.reach_search.specs.Sets.{count_of, state_at}
 use Rattle.reach_search.specs.declared.state_set.StateSet.{StateSet}
 
--- What is known of the value of a variable, or of the output of an instance, and of whether both of a pair are ON.
-abbrev pub told : Symbol → Known Tri Untimed → Tri
-told (symbol.Var var) k = slice_index_or k.values var Off
-told (symbol.Instance inst) k = q_untimed (kept_at untimed k inst)
+-- What is known of the value of a variable, or of the output of an instance; of whether a literal is so; and of whether each of them is.
+abbrev pub known_of : Known Tri Untimed → Symbol → Tri
+known_of k (symbol.Var var) = slice_index_or k.values var Off
+known_of k (symbol.Instance inst) = q_untimed (kept_at untimed k inst)
 
-abbrev pub both_told : Pair → Known Tri Untimed → Tri
-both_told pair k = three_meet (told pair.first k) (told pair.second k)
+abbrev pub told : Known Tri Untimed → Literal → Tri
+told k literal = if literal.value then known_of k literal.symbol else three_inverse (known_of k literal.symbol)
+
+abbrev pub told_all : Known Tri Untimed → List Literal → Tri
+told_all k literals = fold (λ all literal. three_meet all (told k literal)) On literals
 
 -- The state may be one of the set, where it is left by a scan at this moment.
 abbrev pub IsIn : Timing → Diagram → StateSet → ℕ → Held → Type 0
@@ -37,7 +40,7 @@ IsIn timing d set now h = (number : ℕ) × (number < count_of set) × AllowsSta
 
 -- A scan at this moment left the target OFF, and a state that may be one of the set.
 pub record Arrives (q : RunQuestion) (set : StateSet) (now : ℕ) (h : Held) : Type 0 where
-  pub off : are_both_on h q.target ≡ false
+  pub off : list_all (is_so h) q.target ≡ false
   pub there : IsIn q.timing (diagram_of q.program) set now h
 
 -- Each scan arrives that is made of one of these states, with inputs that are known in part.

@@ -4,7 +4,7 @@
 ghost use Rattle.std.specs.Prelude.{◌≡◌, ◌<◌, IfSome, length, slice_index_or};
 ghost use Rattle.scan_signals.specs.declared.tri.Tri.TheVariants as tri;
 
-use crate::target::both_told;
+use crate::target::told_all;
 use diagram_program::Program;
 use reach_leads::{Kept, Trace, lead_of_kept, lead_of_target, noted};
 use reach_runs::RunQuery;
@@ -22,6 +22,8 @@ pub(crate) struct Chooser {
     wanted_by_target: Kept,
     /// It leaves something open that is kept.
     wanted_by_kept: Kept,
+    /// How many scans were traced.
+    looks: u64,
 }
 
 impl Chooser {
@@ -35,7 +37,13 @@ impl Chooser {
             trace: Trace::new(alloc, program)?,
             wanted_by_target: Kept::nothing(alloc, program)?,
             wanted_by_kept: Kept::nothing(alloc, program)?,
+            looks: 0,
         })
+    }
+
+    /// How many scans were traced, which is nearly all the work of a search.
+    pub(crate) fn looks(&self) -> u64 {
+        self.looks
     }
 
     /// The place of an input that leaves the target open after a scan, or else something that is kept. What of the state before it does is noted.
@@ -47,11 +55,12 @@ impl Chooser {
         inputs: &[Tri],
         after: &Knowledge<Tri, Untimed>,
     ) -> Option<usize> {
-        let target = both_told(query.target, after);
+        let target = told_all(query.target, after);
         if target == Tri::On {
             return None;
         }
         self.trace.scan(query.program, before, inputs);
+        self.looks = self.looks.wrapping_add(1);
         if target == Tri::Unsure {
             let lead = lead_of_target(&self.trace, query.target);
             return noted(query.program, lead, &mut self.wanted_by_target);

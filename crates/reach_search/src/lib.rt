@@ -3,10 +3,12 @@
 
 mod choosing;
 mod index;
+mod levels;
 mod moments;
 mod rows;
 mod search;
 mod seeking;
+mod shutting;
 mod state_set;
 mod target;
 mod telling;
@@ -14,4 +16,5 @@ mod visiting;
 mod ways;
 
 pub use search::Limits;
-pub use seeking::{Sought, Verdict, seek};
+pub use seeking::{MOST_STEPS, Progress, Searching, Sought, Verdict, seek};
+pub use shutting::is_shut_out;

@@ -90,19 +90,21 @@ impl Search {
     {
         let program = query.program;
         let inputs = first_inputs(alloc, query)?;
+        let entries = inputs.len();
         let instances = program.decls().instances().len();
+        // The small ones first: what is made is dropped again where a later one finds no memory.
         Ok(Search {
+            inputs,
+            over: vec![in alloc; false; instances]?,
+            index: Index::new(alloc)?,
             before: Knowledge::new(alloc, program)?,
             after: Knowledge::new(alloc, program)?,
             room: Room::new(alloc, program)?,
-            over: vec![in alloc; false; instances]?,
-            set: StateSet::new(alloc, program),
-            index: Index::new(alloc)?,
-            ways: Ways::new(alloc, inputs.len(), instances),
             teller: Teller::new(alloc, query)?,
             chooser: Chooser::new(alloc, program)?,
+            set: StateSet::new(alloc, program),
+            ways: Ways::new(alloc, entries, instances),
             run: Vec::new(alloc),
-            inputs,
         })
     }
 }

@@ -12,12 +12,12 @@ ghost use Rattle.reach_runs.specs.declared.timing.Timing.TheVariants as timing;
 ghost use Rattle.reach_states.specs.Allowing.{AllowsFrom, AllowsState};
 ghost use Rattle.reach_search.specs.Searches.{IsSearchOf, is_end};
 ghost use Rattle.reach_search.specs.Sets.{count_of, state_at};
-ghost use Rattle.reach_search.specs.Visits.{Grows, IsIn, Leads, LeadsOn, both_told};
+ghost use Rattle.reach_search.specs.Visits.{Grows, IsIn, Leads, LeadsOn, told_all};
 ghost use Rattle.reach_search.specs.declared.visiting.Visit.TheVariants.{Closed, Found, Missed, Unclear};
 
 use crate::index::hash_of;
 use crate::search::{Limits, Search};
-use crate::target::both_told;
+use crate::target::told_all;
 use crate::telling::Way;
 use crate::ways::note_over;
 use diagram_program::Program;
@@ -143,14 +143,14 @@ fn arrive(visiting: Visiting<'_>, search: &mut Search) -> Result<Visit, Memory>
     ensures grows { IfOk result (λ _. Grows search.old.set search.new.set) }
     ensures before { IfOk result (λ v. is_end v ≡ false → search.new.before ≡ search.old.before) }
     ensures inputs { IfOk result (λ v. is_end v ≡ false → search.new.inputs.items ≡ search.old.inputs.items) }
-    ensures off { IfOk result (λ v. v ≡ Closed → both_told visiting.entry.query.target search.old.after ≡ tri.Off) }
+    ensures off { IfOk result (λ v. v ≡ Closed → told_all search.old.after visiting.entry.query.target.now ≡ tri.Off) }
     ensures there { IfOk result (λ v. v ≡ Closed → (now : ℕ) (held : Held)
         → AllowsState visiting.entry.query.timing (diagram_of visiting.entry.query.program.now) now search.old.after held
         → IsIn visiting.entry.query.timing (diagram_of visiting.entry.query.program.now) search.new.set now held) }
     ensures found { IfOk result (λ v. v ≡ Found → SwitchesOn (question_of visiting.entry.query) search.new.run.items) }
 {
     let program = visiting.query.program;
-    match both_told(visiting.query.target, &search.after) {
+    match told_all(visiting.query.target, &search.after) {
         Tri::On => return tell(visiting, search),
         Tri::Unsure => return Ok(Visit::Unclear),
         Tri::Off => {}

@@ -1,3 +1,4 @@
+mod AddingRows
 mod Chosen
 mod Cut
 mod Filling

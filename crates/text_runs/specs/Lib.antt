@@ -1,3 +1,5 @@
+pub mod CauseText
+pub mod AddedRows
 pub mod RunText
 pub mod Rows
 pub mod Laws

@@ -2,8 +2,9 @@ use Rattle.std.proofs.Common.{refl, inl}
 use Rattle.causes_query.specs.Causes.{Question}
 use Rattle.cli_inputs.specs.Reports.{HasCauseFault}
 use Rattle.cli_inputs.specs.Setting.{given_by}
-use Rattle.cli_lists.specs.Lists.{IsAsked, list_refusal, names_of}
-use Rattle.cli_lists.proofs.Endings.{before_asking}
+use Rattle.cli_questions.specs.Ending.{IsAsked, names_of}
+use Rattle.cli_lists.specs.Lists.{list_refusal}
+use Rattle.cli_questions.proofs.Endings.{before_asking}
 use Rattle.cli_lists.proofs.progress.list_progress.Goals as goal
 
 pub returns-in-Err-clause-failed : goal.returns-in-Err-clause-failed

@@ -2,7 +2,7 @@ use Rattle.std.proofs.Common.{◌∙◌, inl, inr, refl}
 use Rattle.cli_inputs.specs.declared.fault.ToolFault.TheVariants as fault
 use Rattle.cli_inputs.specs.Setting.{given_by}
 use Rattle.cli_inputs.proofs.Ends.{all_same, prefix_same}
-use Rattle.cli_lists.specs.Query.{question_of}
+use Rattle.cli_questions.specs.Query.{question_of}
 use Rattle.cli_lists.proofs.Forms.{cause_counts_are, causes_are}
 use Rattle.cli_lists.proofs.ProgressEnds.{broke_off, progress_line_is}
 use Rattle.cli_lists.proofs.progress.tell_asked.Goals as goal

@@ -5,8 +5,8 @@ use Rattle.causes_query.specs.Refusal.{refusal}
 use Rattle.cli_inputs.proofs.Ends.{cause_fault}
 use Rattle.cli_inputs.specs.Reports.{HasCauseFault}
 use Rattle.cli_inputs.specs.Setting.{given_by}
-use Rattle.cli_lists.specs.Lists.{IsOnCoil}
-use Rattle.cli_lists.proofs.Endings.{before_asking}
+use Rattle.cli_questions.specs.Ending.{IsOnCoil}
+use Rattle.cli_questions.proofs.Endings.{before_asking}
 use Rattle.cli_lists.proofs.relevant.read_decided.Goals as goal
 
 pub returns-in-Ok-inputs-clause-decided : goal.returns-in-Ok-inputs-clause-decided

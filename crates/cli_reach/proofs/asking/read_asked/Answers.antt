@@ -12,8 +12,8 @@ pub returns-in-Err-inputs_of-clause-fault : goal.returns-in-Err-inputs_of-clause
 returns-in-Err-inputs_of-clause-fault c =
     let s = c.in-Ok.setting in
     let named = c.in-Ok-target_of in
-    let target = subst (λ (d : Declared). IsTarget d c.args.request.now named.target) (c.decls.ensures ∙ sym c.decls-2.ensures) named.ensures.target in
-    let unnamed = c.in-Err-inputs_of.ensures.fault named.target target in
+    let target = subst (λ (d : Declared). IsTarget d c.args.request.now named.target.items) (c.decls.ensures ∙ sym c.decls-2.ensures) named.ensures.target in
+    let unnamed = c.in-Err-inputs_of.ensures.fault named.target.items target in
     inr (inl (
       s.program,
       s.state,

@@ -47,7 +47,7 @@ returns-then-is_on-clause-on c =
     let one = made_with q scans n from h g x c.one.inside.moment c.one.inside.inputs.items c.deref.result.now c.deref-in-loop-done.result.now c.loop-done-test.true
     c.index-run-done.is c.one.view_is c.deref.ensures.value c.deref-in-loop-done.ensures.value ((c.is_in_time.ensures c.one.inside.inputs.items).0 c.if-not-is_in_time.false)
     (c.gives.ensures.0 c.if-not-gives.false) (ap (λ (s : Standing). s.held) c.in-Ok.ensures.done) in
-    let on = sym c.are_both_on-is_on.ensures ∙ c.if-is_on.true in (
+    let on = sym c.are_so-is_on.ensures ∙ c.if-is_on.true in (
       λ last. is_switched q scans n from h g x c.loop-done.invariant.made one (eqb-true (n + 1) (length scans) last) on,
       λ switched. eq-eqb (n + 1) (length scans) (is_last q scans n from h g x c.loop-done.invariant.made one on switched),
     )
@@ -67,7 +67,7 @@ loop-done-preserved c =
     (c.gives.ensures.0 c.if-not-gives.false) (ap (λ (s : Standing). s.held) c.in-Ok.ensures.done) in
     record {
       made = subst (λ (m : ℕ). AreMade q scans (n + 1) (next_of q.timing m) g) (sym (ap (λ (s : OneScan). s.moment) c.one.view_is))
-          (one_made q scans n from h g x c.loop-done.invariant.made one (sym c.are_both_on-is_on.ensures ∙ c.if-is_on.false));
+          (one_made q scans n from h g x c.loop-done.invariant.made one (sym c.are_so-is_on.ensures ∙ c.if-is_on.false));
       moment = subst (λ (s : Standing). s.moment ≤ next_of q.timing moment) (sym c.in-Ok.ensures.done) (next_later q.timing moment);
       fits = c.in-Ok.ensures.fits c.loop-done.invariant.fits;
     }

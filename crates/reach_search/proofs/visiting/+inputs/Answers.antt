@@ -10,7 +10,7 @@ use Rattle.reach_runs.specs.Asking.{question_of}
 use Rattle.reach_states.specs.Allowing.{AllowsState}
 use Rattle.reach_states.specs.Untimed.{untimed}
 use Rattle.reach_states.specs.declared.untimed.Untimed.{Untimed}
-use Rattle.reach_search.specs.Visits.{IsIn, Leads, both_told}
+use Rattle.reach_search.specs.Visits.{IsIn, Leads, told_all}
 use Rattle.reach_search.specs.declared.visiting.Visit.{Visit}
 use Rattle.reach_search.specs.declared.visiting.Visit.TheVariants.{Closed}
 use Rattle.reach_search.proofs.InputLaws.{put_back, put_on}
@@ -50,7 +50,7 @@ visit_inputs-returns-in_default-clause-closed t c =
     let d = diagram_of q.program in
     let inputs = c.args.search.now.inputs.items in
     if_ok_both
-    (λ (v : Visit). v ≡ Closed → both_told q.target c.scan_known.new.known ≡ tri.Off)
+    (λ (v : Visit). v ≡ Closed → told_all c.scan_known.new.known q.target ≡ tri.Off)
     (λ (v : Visit). v ≡ Closed → (now : ℕ) (held : Held) → AllowsState q.timing d now c.scan_known.new.known held → IsIn q.timing d c.arrive.new.search.set now held)
     (λ (v : Visit). v ≡ Closed → Leads q c.arrive.new.search.set (λ now. AllowsState q.timing d now c.args.search.now.before) inputs)
     (λ v off there closed. leads_from q c.arrive.new.search.set c.args.search.now.before c.scan_known.new.known inputs c.scan_allows.ensures

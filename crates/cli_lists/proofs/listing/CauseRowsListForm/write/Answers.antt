@@ -1,20 +1,20 @@
 use Rattle.std.proofs.Common.{◌∙◌, inl, inr, refl}
 use Rattle.text_causes.specs.CauseText.{cause_text, limited}
 use Rattle.text_causes.specs.Parts.{part}
-use Rattle.cli_lists.specs.Query.{question_of}
+use Rattle.cli_questions.specs.Query.{question_of}
 use Rattle.cli_lists.proofs.Forms.{cause_counts_are, causes_are}
 use Rattle.cli_lists.proofs.listing.CauseRowsListForm.write.Goals as goal
 
 pub returns-in-Err : goal.returns-in-Err
 returns-in-Err g c = inl (c.in-Err.ensures.refused, refl)
 
-pub returns-in-Ok-write_upto : goal.returns-in-Ok-write_upto
-returns-in-Ok-write_upto g c =
+pub returns-in-Ok-written : goal.returns-in-Ok-written
+returns-in-Ok-written g c =
     let f = c.args.self.now in
-    let q = question_of c.args.asked in
+    let q = question_of c.args.asked.now in
     let causes = c.in-Ok.causes in
     let made = c.in-Ok.ensures in
-    let w = c.in-Ok-write_upto in (
+    let w = c.in-Ok-written in (
       cause_text causes.program causes.listed (limited f.limit (part f.upto causes.rest)),
       (
         made.accepted,
@@ -24,10 +24,10 @@ returns-in-Ok-write_upto g c =
       w.ensures.bytes,
     )
 
-pub returns : goal.returns
-returns g c =
+pub returns-in-Err-written : goal.returns-in-Err-written
+returns-in-Err-written g c =
     let f = c.args.self.now in
-    let q = question_of c.args.asked in
+    let q = question_of c.args.asked.now in
     let causes = c.in-Ok.causes in
     let made = c.in-Ok.ensures in
     inr (
@@ -35,6 +35,6 @@ returns g c =
       (
         cause_text causes.program causes.listed (limited f.limit (part f.upto causes.rest)),
         (made.accepted, causes_are f.limit f.after f.upto q causes made.program made.listed made.rest, tt),
-        c.in-Err-write_upto.ensures.bytes,
+        c.in-Err-written.ensures.bytes,
       ),
     )

@@ -1,0 +1,5 @@
+pub mod Counted
+mod Inputs
+mod Coming
+mod Cursors
+pub mod RunRows

@@ -1,0 +1,2 @@
+mod PossibleEnds
+mod RunEnds

@@ -1,0 +1,39 @@
+use Rattle.std.proofs.Common.{inl, inr, refl}
+use Rattle.std.specs.Prelude.{None}
+use Rattle.causes_query.specs.Refusal.{refusal}
+use Rattle.text_lists.specs.PossibleText.{possible_text}
+use Rattle.cli_inputs.proofs.Ends.{cause_fault}
+use Rattle.cli_questions.specs.Query.{question_of}
+use Rattle.cli_states.specs.Query.{at_stored}
+use Rattle.cli_states.proofs.PossibleEnds.{are_all, are_some}
+use Rattle.cli_states.proofs.possible.write_rows.Goals as goal
+
+pub returns-in-Err : goal.returns-in-Err
+returns-in-Err g c = inl (cause_fault (refusal (at_stored (question_of c.args.asked.now)) None) c.in-Err.fault c.in-Err.ensures.refused, refl)
+
+pub returns-in-Ok-written : goal.returns-in-Ok-written
+returns-in-Ok-written g c =
+    let q = at_stored (question_of c.args.asked.now) in
+    let causes = c.in-Ok.causes in
+    let made = c.in-Ok.ensures in
+    let w = c.in-Ok-written in
+    let e = w.ensures in (
+      possible_text causes.program causes.listed e.0,
+      are_all c.args.request.now q causes c.write_possible_causes-written.new.causes e.0 made.accepted made.cursor e.1 e.2 w.summary e.4.0 e.4.1,
+      e.3,
+    )
+
+pub returns-in-Err-written : goal.returns-in-Err-written
+returns-in-Err-written g c =
+    let q = at_stored (question_of c.args.asked.now) in
+    let causes = c.in-Ok.causes in
+    let made = c.in-Ok.ensures in
+    let e = c.in-Err-written.ensures in
+    inr (
+      refl,
+      (
+        possible_text causes.program causes.listed e.0,
+        are_some c.args.request.now q causes c.write_possible_causes-written.new.causes e.0 made.accepted made.cursor e.1 e.2,
+        e.3,
+      ),
+    )

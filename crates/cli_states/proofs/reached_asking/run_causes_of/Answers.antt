@@ -1,0 +1,12 @@
+use Rattle.std.proofs.Common.{subst, sym}
+use Rattle.causes_any_state.specs.Possible.{PossibleCursor}
+use Rattle.causes_in_runs.specs.Rows.{AllCount}
+use Rattle.cli_states.proofs.RunEnds.{all_count}
+use Rattle.cli_states.proofs.reached_asking.run_causes_of.Goals as goal
+
+pub new-requires-clause-counts : goal.new-requires-clause-counts
+new-requires-clause-counts c =
+    let asked = c.args.asked.now in
+    let made = c.in_ok-causes.ensures.cursor in
+    subst (λ (x : PossibleCursor). AllCount x.program asked.state x.states) (sym made.same)
+    (all_count c.args.request.now.reachable asked.program asked.state made.staying made.stays)

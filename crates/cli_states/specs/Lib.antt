@@ -1,0 +1,3 @@
+pub mod Query
+pub mod AnyState
+pub mod Never
