@@ -209,6 +209,28 @@ def reached(program, runs):
               f"{most:8}  {name} {slowest * 1e3:.2f} ms, {said.strip()}")
 
 
+def resident(command):
+    """How many bytes of memory a process takes at most, and how many states its search for a run keeps."""
+    with subprocess.Popen(command, stdin=subprocess.DEVNULL, stdout=subprocess.DEVNULL, stderr=subprocess.PIPE) as process:
+        said = process.stderr.read().decode()
+        _, _, used = os.wait4(process.pid, 0)
+        process.returncode = 0
+    return used.ru_maxrss * 1024, int(said.split()[-1])
+
+
+def memory_of_states(program):
+    """Memory a state of a search: of a star-delta starter that runs up for 90 s, scanned every ms, beside the same every 100 ms."""
+    text = (HERE.parent / "examples" / "star_delta" / "star_delta.ld").read_text("ascii").replace("T#6s", "T#90s")
+    with tempfile.NamedTemporaryFile("w", suffix=".ld") as file:
+        file.write(text)
+        file.flush()
+        (small, few), (large, many) = (resident([program, "reach", "--every", every, file.name, "Delta"]) for every in ("100", "1"))
+    a_state = (large - small) / (many - few)
+    print(f"memory of a search: {a_state:.0f} bytes a state, of {many}")
+    if a_state > 200:
+        wrong(f"a state takes {a_state:.0f} bytes")
+
+
 def declarations():
     """Declarations of the greatest length."""
     text = "VAR\n" + "(* a comment that fills the block *)\n" * 27_000 + "  Y AT %QX0 : BOOL;\nEND_VAR\n"
@@ -319,6 +341,7 @@ def main():
     held(program, runs)
     possible(program, runs)
     reached(program, runs)
+    memory_of_states(program)
     for name, text in TEXTS:
         with tempfile.NamedTemporaryFile() as file:
             file.write(text())

@@ -34,6 +34,7 @@ REQUESTS = (
     (("causes", "--scans", "3", *LIST), 0),
     (("causes", "--grouped", *LIST), 0),
     (("causes", "--any", "motor.ld", "Motor", "Start", "Stop"), 0),
+    (("causes", "--any", "--runs", "motor.ld", "Motor", "Start", "Stop"), 0),
     (("show", "--state", "running.csv", "motor.ld", "Start", "Stop"), 0),
     (("reach", "--state", "running.csv", "motor.ld", "Motor", "Start"), 0),
     (("reach", "--every", "10", "rhythm.ld", "Y"), 0),

@@ -4,7 +4,8 @@
 A list with `--progress` must have the bytes and the counts of the same list without it, and its lines must ascend. Stopped at any moment, the
 file of its rows must have all rows up to the last number that was told; and what `--after` lists from there on must complete it. So it must
 where the list ends at a number, begins after one, or has a limit, and where the lines or the rows can't be written. On a terminal it tells by
-itself.
+itself. A search for a run with `--progress` must have the answer of the same search without it, its lines must ascend, and it must end with its first line
+where none can be written.
 """
 import os
 import pathlib
@@ -22,6 +23,8 @@ HERE = pathlib.Path(__file__).resolve().parent
 CIRCUIT = HERE.parent / "bench" / "circuits" / "xorand32.ld"
 WORDS = [str(CIRCUIT), "Y", *(f"I{number}" for number in range(1, 33))]
 LINE = re.compile(rb"reached ([0-9]+)\n")
+SEARCH = ["reach", str(HERE.parent / "bench" / "circuits" / "latches7.ld"), "Y"]
+STEP = re.compile(rb"^states ([0-9]+) scans ([0-9]+)\n", re.MULTILINE)
 
 
 def run(program, words, **how):
@@ -117,6 +120,24 @@ def on_terminal(program):
     return [f"on a terminal: status {status}, {text!r}"] if status != 0 or b"reached " not in text else []
 
 
+def searched(program):
+    """What is wrong with a search for a run that tells how far it is."""
+    how = {"stdin": subprocess.DEVNULL, "stdout": subprocess.PIPE, "check": False, "timeout": 300}
+    silent, telling = (subprocess.run([program, *SEARCH, *words], stderr=subprocess.PIPE, **how) for words in ([], ["--progress"]))
+    with open("/dev/full", "wb") as full:
+        unwritten_line = subprocess.run([program, *SEARCH, "--progress"], stderr=full, **how)
+    wrong, lines = [], STEP.findall(telling.stderr)
+    if not lines or (telling.returncode, telling.stdout, STEP.sub(b"", telling.stderr)) != (silent.returncode, silent.stdout, silent.stderr):
+        wrong.append(f"a search: status {telling.returncode}, {telling.stderr!r} in place of {silent.returncode}, {silent.stderr!r}")
+    states = [int(number) for number, _ in lines]
+    scans = [int(number) for _, number in lines]
+    if states != sorted(states) or scans != sorted(set(scans)) or 0 in states + scans:
+        wrong.append(f"a search: the lines don't ascend: {lines}")
+    if (unwritten_line.returncode, unwritten_line.stdout) != (1, b""):
+        wrong.append(f"a search whose lines can't be written: status {unwritten_line.returncode}")
+    return wrong
+
+
 def main():
     program = os.path.abspath(sys.argv[1])
     stops = int(sys.argv[2]) if len(sys.argv) > 2 else 4
@@ -134,10 +155,11 @@ def main():
         tried += 1
     wrong += unwritten(program, rows)
     wrong += on_terminal(program)
-    tried += 3
+    wrong += searched(program)
+    tried += 4
     for line in wrong:
         print(line)
-    print(f"{tried - len(wrong)} of {tried} lists that tell how far they are passed")
+    print(f"{tried - len(wrong)} of {tried} lists and searches that tell how far they are passed")
     return 1 if wrong else 0
 
 

@@ -9,7 +9,9 @@ for UNSETTLED. Texts that break a rule are passed over, and those that declare w
 Then random drawings with three inputs, from the fresh state, at any moments and in a rhythm. Their states are gone through breadth first,
 by `running.py` too, and their timers take at most 4 ms, so that each time between two scans is tried: each name and some pairs must have a
 run as short as there is one, or none. At any moments an answer may be a longer run, or unsettled: they are counted, and no run may be
-shorter than such an answer says. A drawing of too many states is passed over.
+shorter than such an answer says. A drawing of too many states is passed over. At any moments the rows of `causes --any --runs` are
+compared too, of each coil with some of the inputs: each assignment to which a run comes has a row, and no other is marked `r`; rows that are
+left open are counted.
 """
 import argparse
 import concurrent.futures
@@ -34,7 +36,7 @@ TIMERS = ("TON", "TOF", "TP")
 COMMENT = re.compile(r"\(\*.*?\*\)|//[^\n]*", re.DOTALL)
 NOW, MOST_STATES, RHYTHMS = 10 ** 9, 400, (1, 3, 10)
 # Where two timers begin together, and a name needs one of them to end before the other.
-UNSETTLED = {("tests/cases/reach/timers-that-begin-together.case", ("APART",))}
+UNSETTLED = {("tests/cases/reach/timers-that-begin-together.case", ("APART",)), ("tests/cases/causes/any/runs/not-settled.case", ("Y",))}
 
 
 def program_of(text):
@@ -182,7 +184,7 @@ class States:
         self.program, self.instances, self.every = program, instances_of(program), every
         self.inputs = [dict(zip(program.inputs, bits)) for bits in itertools.product((False, True), repeat=len(program.inputs))]
         self.first = dict.fromkeys(asked)
-        self.seen = set()
+        self.seen, self.after = set(), set()
 
     def explore(self):
         """Whether all states were gone through."""
@@ -192,6 +194,7 @@ class States:
             level = [after for state in level for after in self.followers(state, scans, reached)]
             if len(self.seen) > MOST_STATES:
                 return False
+            self.after.update(tuple(sorted(values.items())) for values in reached)
             for asked in self.first:
                 if self.first[asked] is None and any(all(values[name] for name in asked) for values in reached):
                     self.first[asked] = scans
@@ -294,6 +297,28 @@ def check_drawing(tool, folder, seed, tally):
         if is_so == "wrong" or verdict == "run" and not is_right(program, one, records, scans, every):
             tally["different"] += 1
             print(text, f"seed {seed}: {' '.join([*words, *one])}: {verdict} {scans}, the first after {states.first[one]}", sep="\n", flush=True)
+    if every is None:
+        for row, is_so in check_rows(tool, folder, chance, states):
+            tally[f"rows: {is_so}"] += 1
+            if is_so == "wrong":
+                tally["different"] += 1
+                print(text, f"seed {seed}: {row}", sep="\n", flush=True)
+
+
+def check_rows(tool, folder, chance, states):
+    """What the rows of some coils are, of which each assignment either has a run or none; `wrong` where they can't be so."""
+    program = states.program
+    coils = [name for name in names_of(program) if name in program.variables]
+    for coil in coils:
+        listed = chance.sample(program.inputs, chance.randint(0, len(program.inputs)))
+        words = ["causes", "--any", "--runs", *chance.choice([[], ["--reachable"]]), "program.ld", coil, *listed]
+        out = run(tool, words, folder)[0].decode().splitlines()
+        rows = dict((tuple(fields[2:]), fields[1]) for fields in (line.split(",") for line in out[1:]))
+        comes = {tuple("01"[values[name]] for name in listed) for values in map(dict, states.after) if values[coil]}
+        for bits in itertools.product("01", repeat=len(listed)):
+            mark = rows.get(bits, "none")
+            is_right = mark in "1?" or (mark == "r" and bits in comes) or (mark == "none" and bits not in comes)
+            yield " ".join([*words, *bits]), ({"r": "run", "none": "none"}.get(mark, "unsettled") if is_right else "wrong")
 
 
 def check_seeds(tool, seeds):
