@@ -35,14 +35,14 @@ _ladder() {
         return
     fi
     case $subcommand in
-        causes) options='--state --at --after --upto --limit --scans --for --every --grouped --terms --st --order --any --off --must --reachable --looks --relevant --all-inputs --all-coils --progress --quiet --aliases --why --help' ;;
+        causes) options='--state --at --after --upto --limit --scans --for --every --grouped --terms --st --order --any --off --must --reachable --looks --runs --states --relevant --all-inputs --all-coils --progress --quiet --aliases --why --help' ;;
         show) options='--state --at --number --html --stimulus --coil --all-inputs --aliases --why --help' ;;
         sim) options='--state --save --every --watch --watch-all --vcd --aliases --why --help' ;;
         check) options='--warn --aliases --why --help' ;;
         uses) options='--aliases --why --help' ;;
         import) options='--open --control --hal --why --help' ;;
         never) options='--state --off --pairs --quiet --aliases --why --help' ;;
-        reach) options='--state --at --every --scans --states --both --gap --why --help' ;;
+        reach) options='--state --at --every --scans --states --both --gap --progress --why --help' ;;
         explain) options='--help' ;;
         help)
             mapfile -t COMPREPLY < <(compgen -W 'check causes show sim uses never reach import explain' -- "$word")

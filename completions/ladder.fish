@@ -7,7 +7,7 @@ function __ladder_places
     for word in $words
         if test $due = 1
             set due 0
-        else if contains -- $word --state --at --after --upto --limit --scans --for --every --order --number --stimulus --coil --all-coils --save --watch --states --both --gap --control --hal
+        else if contains -- $word --state --at --after --upto --limit --scans --for --every --looks --order --number --stimulus --coil --all-coils --save --watch --states --both --gap --control --hal
             set due 1
         else if not string match -q -- '-*' $word
             echo $word
@@ -92,6 +92,7 @@ complete -c ladder -n '__ladder_at reach more 0' -l scans -x -d 'With --every, r
 complete -c ladder -n '__ladder_at reach more 0' -l states -x -d 'At most so many states are kept'
 complete -c ladder -n '__ladder_at reach more 0' -l both -x -a '(__ladder_targets)' -d 'This one ON after the same scan'
 complete -c ladder -n '__ladder_at reach more 0' -l gap -x -d 'How far apart the scans are where they can be, in ms'
+complete -c ladder -n '__ladder_at reach more 0' -l progress -d 'Tell how far the search is, about once a second'
 complete -c ladder -n '__ladder_at import more 0' -l open -d 'Compares and steps have any value'
 complete -c ladder -n '__ladder_at import more 0' -l control -x -a on -d 'The control input of timers that have none'
 complete -c ladder -n '__ladder_at import more 0' -l hal -r -F -d 'A HAL file with names'
@@ -111,6 +112,8 @@ complete -c ladder -n '__ladder_at causes more 0' -l off -d 'With --any, states 
 complete -c ladder -n '__ladder_at causes more 0' -l must -d 'With --any, what leaves it ON from every state'
 complete -c ladder -n '__ladder_at causes more 0' -l reachable -d 'With --any, states with what never says alone'
 complete -c ladder -n '__ladder_at causes more 0' -l looks -x -d 'With --any, at most so many looks for a row'
+complete -c ladder -n '__ladder_at causes more 0' -l runs -d 'With --any, rows to which a run comes are marked'
+complete -c ladder -n '__ladder_at causes more 0' -l states -x -d 'With --runs, at most so many states are kept for a row'
 complete -c ladder -n '__ladder_at causes more 0' -l relevant -d 'The inputs that matter to the coil in this scan'
 complete -c ladder -n '__ladder_at show more 0' -l number -x -d 'The number of the row'
 complete -c ladder -n '__ladder_at show more 0' -l html -d 'One page of HTML'
