@@ -1,13 +1,13 @@
 mod Finding
-mod Numbers
+pub mod Numbers
 mod Parting
 mod Pruning
-mod Telling
+pub mod Telling
 mod Knowledge
 mod Likenings
 mod FourLaws
 mod LaneLaws
-mod GroupCounts
+pub mod GroupCounts
 mod AnyOrder
 mod Carrying
 mod Fewest

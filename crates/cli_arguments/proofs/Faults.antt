@@ -5,9 +5,12 @@ use Rattle.std.proofs.lemmas.Bool.{both_ways}
 use Rattle.std.proofs.lemmas.Slice.Eq.{bytes_eq-Decides}
 use Rattle.clap.specs.Words.{Row, Text, all_of, first_of}
 use Rattle.cli_options.specs.Pages.{is_fault_code}
-use Rattle.cli_arguments.specs.Asking.{Asks, AsksNone, HasCoil, HasControl, HasEvery, HasExcluded, HasNoTask, HasFlag, HasForm, HasInputs, HasLasting, HasNumber, HasOption, HasPace, HasRuns, HasScans, HasSwitch, HasWatched, HasOrder, IsNamed, IsOfOneState, IsPlain, IsSingle, IsTable, MayGroup, MayHaveLimit, NamesCauses, NamesList, NamesTrace, input_texts, inputs_for}
-use Rattle.cli_arguments.specs.Parts.{HasGrouping, IsOfAnyState, IsOfOneScan, IsOfRecords, IsUncut, IsWhole, MayLast, NamesNoEnd, NamesNoRuns, NamesNoStates, NamesScan, Plays}
+use Rattle.cli_arguments.specs.Asking.{Asks, AsksNone, HasCoil, HasControl, HasDiffForm, HasEvery, HasExcluded, HasFlag, HasForm, HasGrouping, HasInputs, HasLasting, HasNoTask, HasNumber, HasOption, HasOrder, HasPace, HasRuns, HasScans, HasSwitch, HasWatched, IsNamed, IsOfOneState, IsPlain, IsSingle, IsTable, IsWhole, MayGroup, MayHaveLimit, NamesCauses, NamesList, NamesTrace, input_texts, inputs_for}
+use Rattle.cli_arguments.specs.Parts.{HasNoBounds, HasPrograms, IsOfAnyState, IsOfOneScan, IsOfRecords, IsUncut, MayLast, NamesNoDiff, NamesNoEnd, NamesNoRuns, NamesNoStates, NamesScan, Plays}
 use Rattle.cli_arguments.specs.Faults.{UsageWhere}
+use Rattle.cli_arguments.specs.declared.comparing.Programs.{Programs}
+use Rattle.cli_arguments.specs.declared.request.DiffForm.{DiffForm}
+use Rattle.cli_arguments.specs.declared.request.DiffForm.TheVariants as diff
 use Rattle.cli_arguments.specs.declared.request.GroupFormat.{GroupFormat}
 use Rattle.cli_arguments.specs.declared.request.GroupFormat.TheVariants.{Statement, Table, Terms}
 use Rattle.cli_arguments.specs.declared.request.InputOrder.{InputOrder}
@@ -33,7 +36,7 @@ use Rattle.cli_arguments.specs.declared.lasting.Lasting.TheVariants.{Count, Unti
 use Rattle.cli_arguments.specs.declared.request.Request.TheVariants.{Causes, Check, Film, Groups, Held, Import, Never, Possible, Progress, Reach, Relevant, Show, Sim, Uses, Watch, Waves}
 use Rattle.cli_arguments.specs.declared.request.WordFault.{WordFault}
 use Rattle.cli_arguments.specs.declared.request.WordFault.TheVariants.{Help, Memory, Mistake, Usage}
-use Rattle.cli_arguments.specs.declared.request.Task.TheVariants.{Explain, Perform, PerformAll}
+use Rattle.cli_arguments.specs.declared.request.Task.TheVariants.{Compare, Explain, Perform, PerformAll}
 
 pub usage_weaker : {P Q : Type 0} (e : WordFault) → (P → Q) → UsageWhere P e → UsageWhere Q e
 usage_weaker Usage f p = f p
@@ -111,6 +114,7 @@ pub no_pages : (rows : List Row) (names : List (String Global)) → unwrap_or (a
     → HasNoTask (codes "explain") rows
 no_pages rows names given none (Perform line) h = explains_alone rows line.request h.0.0
 no_pages rows names given none (PerformAll all) h = explains_alone rows all.line.request h.0.0
+no_pages rows names given none (Compare r) h = apart (codes "explain") (codes "diff") refl h.0
 no_pages rows names given none (Explain other) h =
     let same = all_codes_of names ∙ ap (λ texts. list_all is_fault_code texts) (sym given ∙ h.1.0) ∙ sym (all_codes_of other.items) in
     let bad = sym none ∙ same ∙ h.1.1 in
@@ -591,3 +595,15 @@ watches_none rows false flag named none = record { flag = flag; named = no_value
 pub watches_all : (rows : List Row) (all : Bool) → HasSwitch (codes "watch-all") rows all → all ≡ true → HasWatched rows false [] → ⊥
 watches_all rows true flag set h = h.flag flag
 watches_all rows false flag set h = cc
+
+-- ---- comparisons
+
+pub no_diff_groups : (rows : List Row) → HasFlag (codes "grouped") rows → (HasNoBounds rows → ⊥) → (f : DiffForm) → HasDiffForm rows f → ⊥
+no_diff_groups rows grouped bounded (diff.Rows after upto) h = h.0.0 grouped
+no_diff_groups rows grouped bounded (diff.Groups g) h = bounded (h.2, h.3)
+
+pub no_diff_of_inputs : (rows : List Row) → ((all : Bool) (names : List Text) → HasInputs rows all names → ⊥) → NamesNoDiff rows
+no_diff_of_inputs rows none r h = none r.all_inputs (map string_bytes r.inputs.items) h.9
+
+pub no_diff_of_programs : (rows : List Row) → ((p : Programs) → HasPrograms rows p → ⊥) → NamesNoDiff rows
+no_diff_of_programs rows none r h = none (record { old = r.old; new = r.new; state = r.state; new_state = r.new_state }) (h.6, h.7, h.0, h.1)

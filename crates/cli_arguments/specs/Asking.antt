@@ -8,6 +8,9 @@ use Rattle.cli_options.specs.Pages.{is_fault_code}
 use Rattle.cli_arguments.specs.declared.parts.TheConstants.{EVERY}
 use Rattle.cli_arguments.specs.declared.lasting.Lasting.{Lasting}
 use Rattle.cli_arguments.specs.declared.lasting.Lasting.TheVariants.{Count, Until}
+use Rattle.cli_arguments.specs.declared.request.DiffForm.{DiffForm}
+use Rattle.cli_arguments.specs.declared.request.DiffForm.TheVariants as diff
+use Rattle.cli_arguments.specs.declared.request.DiffRequest.{DiffRequest}
 use Rattle.cli_arguments.specs.declared.request.Excluded.{Excluded}
 use Rattle.cli_arguments.specs.declared.request.Excluded.TheVariants as excluded
 use Rattle.cli_arguments.specs.declared.request.GroupFormat.{GroupFormat}
@@ -26,7 +29,7 @@ use Rattle.cli_arguments.specs.declared.request.Request.TheVariants.{Causes, Che
 use Rattle.cli_arguments.specs.declared.request.RunsWanted.{RunsWanted}
 use Rattle.cli_arguments.specs.declared.request.SimRequest.{SimRequest}
 use Rattle.cli_arguments.specs.declared.request.Task.{Task}
-use Rattle.cli_arguments.specs.declared.request.Task.TheVariants.{Explain, Perform, PerformAll}
+use Rattle.cli_arguments.specs.declared.request.Task.TheVariants.{Compare, Explain, Perform, PerformAll}
 
 abbrev pub HasText : Text → List Row → List ℕ → Type 0
 HasText id rows text = first_of id rows ≡ Some text
@@ -106,6 +109,17 @@ HasRuns (Some runs) rows = HasFlag (codes "runs") rows
 abbrev pub MayHaveLimit : GroupFormat → Option ℕ → Type 0
 MayHaveLimit Statement limit = limit ≡ None
 MayHaveLimit form limit = ⊤
+
+-- A statement has no limit.
+abbrev pub IsWhole : GroupFormat → List Row → Type 0
+IsWhole Statement rows = HasNumber (codes "limit") rows None
+IsWhole form rows = ⊤
+
+-- how groups are asked for
+abbrev pub HasGrouping : List Row → Grouping → Type 0
+HasGrouping rows g = HasForm g.form rows
+    × HasOrder g.order rows
+    × IsWhole g.form rows
 
 -- Each cause has a row of its own: groups, their forms and their order aren't asked for.
 abbrev pub IsTable : List Row → Type 0
@@ -325,6 +339,29 @@ Asks name rows (Import opened control_on file hal) = (name ≡ codes "import")
     × HasText (codes "file") rows (string_bytes file)
     × HasOption (codes "hal") rows (option_map string_bytes hal)
 
+-- How differences are written: each has a row of its own, from the number that it begins after to the one that it ends at; or they are in groups, which have no numbers.
+abbrev pub HasDiffForm : List Row → DiffForm → Type 0
+HasDiffForm rows (diff.Rows after upto) = IsTable rows × HasNumber (codes "after") rows after × HasNumber (codes "upto") rows upto
+HasDiffForm rows (diff.Groups g) = HasFlag (codes "grouped") rows
+    × HasGrouping rows g
+    × HasNumber (codes "after") rows None
+    × HasNumber (codes "upto") rows None
+
+-- what a comparison of two programs names
+abbrev pub NamesDiff : List Row → DiffRequest → Type 0
+NamesDiff rows r = HasOption (codes "state") rows (option_map string_bytes r.state)
+    × HasOption (codes "new-state") rows (option_map string_bytes r.new_state)
+    × HasNumber (codes "at") rows r.moment
+    × HasDiffForm rows r.form
+    × HasNumber (codes "limit") rows r.limit
+    × HasSwitch (codes "quiet") rows r.quiet
+    × HasText (codes "old") rows (string_bytes r.old)
+    × HasText (codes "new") rows (string_bytes r.new)
+    × HasText (codes "coil") rows (string_bytes r.coil)
+    × HasInputs rows r.all_inputs (map string_bytes r.inputs.items)
+    × HasSwitch (codes "aliases") rows r.aliases
+    × HasSwitch (codes "why") rows r.why
+
 -- the subcommand's name and values ask for no request
 abbrev pub AsksNone : Text → List Row → Type 0
 AsksNone name rows = (r : Request) → Asks name rows r → ⊥
@@ -337,10 +374,11 @@ Says name rows line = Asks name rows line.request × HasSwitch (codes "aliases")
 abbrev pub NamesCodes : List Row → List (String Global) → Type 0
 NamesCodes rows names = (unwrap_or (all_of (codes "codes") rows) [] ≡ map string_bytes names) × (list_all (λ name. is_fault_code (string_bytes name)) names ≡ true)
 
--- what is to be done: a request, a request for each coil, or what `ladder explain` says of faults
+-- what is to be done: a request, a request for each coil, a comparison, or what `ladder explain` says of faults
 abbrev pub HasTask : Text → List Row → Task → Type 0
 HasTask name rows (Perform line) = Says name rows line × HasOption (codes "all-coils") rows None
 HasTask name rows (PerformAll all) = Says name rows all.line × HasOption (codes "all-coils") rows (Some (string_bytes all.folder))
+HasTask name rows (Compare r) = (name ≡ codes "diff") × NamesDiff rows r
 HasTask name rows (Explain names) = (name ≡ codes "explain") × NamesCodes rows names.items
 
 -- the subcommand's name and values ask for nothing

@@ -1,14 +1,13 @@
 -- What is read of the parts of a request.
-use Rattle.std.specs.Prelude.{⊤, false, List, Option, None, Some, map, codes, string_bytes, option_map, []}
+use Rattle.std.specs.Prelude.{false, List, Option, None, Some, map, codes, string_bytes, option_map, []}
 use Rattle.clap.specs.Words.{Row}
-use Rattle.cli_arguments.specs.Asking.{HasFlag, HasForm, HasInputs, HasLasting, HasNumber, HasOption, HasOrder, HasText}
+use Rattle.cli_arguments.specs.Asking.{HasFlag, HasForm, HasInputs, HasLasting, HasNumber, HasOption, HasOrder, HasText, NamesDiff}
+use Rattle.cli_arguments.specs.declared.comparing.Programs.{Programs}
 use Rattle.cli_arguments.specs.declared.lasting.Lasting.{Lasting}
 use Rattle.cli_arguments.specs.declared.parts.NamedScan.{NamedScan}
 use Rattle.cli_arguments.specs.declared.simulating.Played.{Played}
 use Rattle.cli_arguments.specs.declared.parts.Sources.{Sources}
-use Rattle.cli_arguments.specs.declared.request.GroupFormat.{GroupFormat}
-use Rattle.cli_arguments.specs.declared.request.GroupFormat.TheVariants.{Statement}
-use Rattle.cli_arguments.specs.declared.request.Grouping.{Grouping}
+use Rattle.cli_arguments.specs.declared.request.DiffRequest.{DiffRequest}
 
 -- the state and the program text
 abbrev pub HasSources : List Row → Sources → Type 0
@@ -69,13 +68,17 @@ abbrev pub MayLast : Option Lasting → List Row → Type 0
 MayLast None rows = HasNumber (codes "scans") rows None × HasNumber (codes "for") rows None
 MayLast (Some lasting) rows = HasLasting lasting rows
 
--- A statement has no limit.
-abbrev pub IsWhole : GroupFormat → List Row → Type 0
-IsWhole Statement rows = HasNumber (codes "limit") rows None
-IsWhole form rows = ⊤
+-- the programs that are compared, and their states
+abbrev pub HasPrograms : List Row → Programs → Type 0
+HasPrograms rows p = HasText (codes "old") rows (string_bytes p.old)
+    × HasText (codes "new") rows (string_bytes p.new)
+    × HasOption (codes "state") rows (option_map string_bytes p.state)
+    × HasOption (codes "new-state") rows (option_map string_bytes p.new_state)
 
--- how groups are asked for
-abbrev pub HasGrouping : List Row → Grouping → Type 0
-HasGrouping rows g = HasForm g.form rows
-    × HasOrder g.order rows
-    × IsWhole g.form rows
+-- No number is given to begin after, and none to end at.
+abbrev pub HasNoBounds : List Row → Type 0
+HasNoBounds rows = HasNumber (codes "after") rows None × HasNumber (codes "upto") rows None
+
+-- no comparison is named
+abbrev pub NamesNoDiff : List Row → Type 0
+NamesNoDiff rows = (r : DiffRequest) → NamesDiff rows r → ⊥

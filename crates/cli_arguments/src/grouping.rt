@@ -2,8 +2,8 @@
 
 ghost use Rattle.std.specs.Prelude.{◌≡◌, [], true, false, codes, IfOk, IfErr, None, Some};
 ghost use Rattle.clap.specs.Words.{found_of, rows_of};
-ghost use Rattle.cli_arguments.specs.Asking.{Asks, AsksNone, HasFlag, HasForm, HasInputs, HasOrder, IsNamed, IsOfOneState, IsSingle};
-ghost use Rattle.cli_arguments.specs.Parts.{HasGrouping, IsWhole, MayLast, NamesNoEnd};
+ghost use Rattle.cli_arguments.specs.Asking.{Asks, AsksNone, HasFlag, HasForm, HasGrouping, HasInputs, HasOrder, IsNamed, IsOfOneState, IsSingle, IsWhole};
+ghost use Rattle.cli_arguments.specs.Parts.{MayLast, NamesNoEnd};
 ghost use Rattle.cli_arguments.specs.Faults.{UsageWhere};
 
 use crate::found::{is_given, is_set, number, text};
@@ -69,7 +69,7 @@ pub(crate) fn relevant_groups(alloc: Global, found: &ArgMatches<'_>) -> Result<R
 }
 
 /// The form and the order in which groups are asked for; a statement that would be cut off is refused.
-fn grouping_of(found: &ArgMatches<'_>) -> Result<Grouping, WordFault>
+pub(crate) fn grouping_of(found: &ArgMatches<'_>) -> Result<Grouping, WordFault>
     ensures ok { IfOk result (HasGrouping (rows_of (found_of found.now))) }
     ensures err { IfErr result (UsageWhere ((g : Grouping) → HasGrouping (rows_of (found_of found.now)) g → ⊥)) }
 {

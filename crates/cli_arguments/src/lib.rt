@@ -2,6 +2,7 @@
 #![tactic(auto)]
 
 mod causes;
+mod comparing;
 mod found;
 mod grouping;
 mod lasting;
@@ -14,8 +15,8 @@ mod simulating;
 mod words;
 
 pub use request::{
-    AllCoils, CommandLine, Excluded, FilmRequest, GroupFormat, Grouping, InputOrder, ListRequest,
-    Medium, NeverRequest, Pace, PossibleRequest, ReachRequest, Request, RunsWanted, ShowRequest,
-    SimRequest, Task, WatchRequest, WavesRequest, WordFault,
+    AllCoils, CommandLine, DiffForm, DiffRequest, Excluded, FilmRequest, GroupFormat, Grouping,
+    InputOrder, ListRequest, Medium, NeverRequest, Pace, PossibleRequest, ReachRequest, Request,
+    RunsWanted, ShowRequest, SimRequest, Task, WatchRequest, WavesRequest, WordFault,
 };
 pub use words::read_words;

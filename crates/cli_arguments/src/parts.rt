@@ -107,13 +107,13 @@ pub(crate) fn sources_of(alloc: Global, found: &ArgMatches<'_>) -> Result<Source
 
 /// The inputs that are listed: all, or those of these names.
 #[derive(Drop)]
-struct InputNames {
-    all: bool,
-    names: Vec<String>,
+pub(crate) struct InputNames {
+    pub all: bool,
+    pub names: Vec<String>,
 }
 
 /// The listed inputs: their names, or all inputs by a flag, but not both.
-fn inputs_of(alloc: Global, found: &ArgMatches<'_>) -> Result<InputNames, WordFault>
+pub(crate) fn inputs_of(alloc: Global, found: &ArgMatches<'_>) -> Result<InputNames, WordFault>
     ensures ok { IfOk result (λ l. HasInputs (rows_of (found_of found.now)) l.all (map string_bytes l.names.items)) }
     ensures err { IfErr result (UsageWhere ((all : Bool) (names : List Text) → HasInputs (rows_of (found_of found.now)) all names → ⊥)) }
 {

@@ -239,6 +239,51 @@ pub struct ReachRequest {
     pub inputs: Vec<String>,
 }
 
+/// How what two programs do differently is written.
+#[derive(Clone, Copy, Debug, PartialEq, Eq)]
+pub enum DiffForm {
+    /// A row for each combination of the listed inputs.
+    Rows {
+        /// The number to begin after.
+        after: Option<u64>,
+        /// The number to end at; the last one where there is none.
+        upto: Option<u64>,
+    },
+    /// A row for each group.
+    Groups(Grouping),
+}
+
+/// What a request names for what two programs do differently with a coil.
+#[derive(Drop)]
+pub struct DiffRequest {
+    /// The file of the state of the old program in which the scan begins; the fresh one where there is none.
+    pub state: Option<String>,
+    /// The file of the state of the new program; where there is none, that of the old one is carried over, if one is named.
+    pub new_state: Option<String>,
+    /// The moment of the scan of both, in ms; the one that each state stores where there is none.
+    pub moment: Option<u64>,
+    /// How the rows are written.
+    pub form: DiffForm,
+    /// How many rows are written at most.
+    pub limit: Option<u64>,
+    /// Whether the line of counts is left out.
+    pub quiet: bool,
+    /// The file of the program text before the change.
+    pub old: String,
+    /// The file of the program text after it.
+    pub new: String,
+    /// The name of the coil's variable.
+    pub coil: String,
+    /// Whether all inputs are listed that both programs have; otherwise they are named.
+    pub all_inputs: bool,
+    /// The names of the listed inputs, the first one most significant.
+    pub inputs: Vec<String>,
+    /// Whether aliases are printed in place of names.
+    pub aliases: bool,
+    /// Whether a fault is explained, after its line.
+    pub why: bool,
+}
+
 /// What the arguments ask for.
 #[derive(Drop)]
 pub enum Request {
@@ -330,6 +375,8 @@ pub enum Task {
     Perform(CommandLine),
     /// To perform a request for each coil of its program.
     PerformAll(AllCoils),
+    /// To compare two programs.
+    Compare(DiffRequest),
     /// To say what the faults with these codes mean, or to list all faults where none is named.
     Explain(Vec<String>),
 }

@@ -10,6 +10,7 @@ ghost use Rattle.cli_arguments.specs.Asking.{Asks, AsksBy, AsksNone, HasControl,
 ghost use Rattle.cli_arguments.specs.Faults.{IsFaultOf, SaysOf, UsageWhere};
 
 use crate::causes::causes_request;
+use crate::comparing::diff_task;
 use crate::found::{is_set, optional, text, texts};
 use crate::parts::{Sources, sources_of};
 use crate::reaching::reach_request;
@@ -74,13 +75,16 @@ fn task_in(alloc: Global, matches: &ArgMatches<'_>) -> Result<Task, WordFault>
     }
 }
 
-/// The task of a subcommand: pages on faults, or a request.
+/// The task of a subcommand: pages on faults, a comparison, or a request.
 fn task_of(alloc: Global, name: &str, found: &ArgMatches<'_>) -> Result<Task, WordFault>
     ensures ok { IfOk result (HasTask name.now (rows_of (found_of found.now))) }
     ensures err { IfErr result (UsageWhere (HasNoTask name.now (rows_of (found_of found.now)))) }
 {
     if name == "explain" {
         return explain_task(alloc, found);
+    }
+    if name == "diff" {
+        return diff_task(alloc, found);
     }
     match line_of(alloc, name, found) {
         Ok(line) => task_for(alloc, found, line),

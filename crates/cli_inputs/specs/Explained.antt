@@ -5,12 +5,13 @@ use Rattle.causes_query.specs.declared.fault.CauseFault.TheVariants as cause
 use Rattle.diagram_reader.specs.declared.fault.GridFault.TheVariants.{Grid}
 use Rattle.diagram_reader.specs.Columns.{IsColumnOf}
 use Rattle.cli_inputs.specs.Reasons.{reason_text}
+use Rattle.search_differences.specs.declared.side.Side.{Side}
 use Rattle.text_state.specs.declared.fault.StateFault.TheVariants as state
 use Rattle.io_text.specs.declared.fault.ReadFault.TheVariants as read
 use Rattle.text_trace.specs.declared.fault.SimFault.TheVariants as sim
 use Rattle.cli_inputs.specs.declared.fault.ToolFault.{ToolFault}
 use Rattle.cli_inputs.specs.declared.fault.ToolFault.TheVariants as fault
-use Rattle.cli_inputs.specs.FaultLine.{fault_line}
+use Rattle.cli_inputs.specs.FaultLine.{line_by}
 
 -- why there is no list of causes, or no scan to show
 abbrev pub cause_sentence : CauseFault → List ℕ
@@ -58,6 +59,10 @@ explained text (fault.Grid f) column = reason_text text f column
 explained text other column = sentence other ++ codes "\n"
 
 -- The line of the fault, and its explanation where that is asked for.
+abbrev pub report_by : Option Side → Bool → List ℕ → ToolFault → Option ℕ → List ℕ
+report_by side true text f column = line_by side f ++ explained text f column
+report_by side false text f column = line_by side f
+
+-- the same where there is one program
 abbrev pub report_of : Bool → List ℕ → ToolFault → Option ℕ → List ℕ
-report_of true text f column = fault_line f ++ explained text f column
-report_of false text f column = fault_line f
+report_of = report_by None

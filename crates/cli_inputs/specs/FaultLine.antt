@@ -1,5 +1,5 @@
 -- The line of a fault: the code of the rule, and where it shows.
-use Rattle.std.specs.Prelude.{◌++◌, ℕ, List, codes, decimal}
+use Rattle.std.specs.Prelude.{◌++◌, ℕ, List, Option, None, Some, codes, decimal}
 use Rattle.diagram_declarations.specs.declared.fault.VarRule.{VarRule}
 use Rattle.diagram_declarations.specs.declared.fault.VarRule.TheVariants as var
 use Rattle.diagram_reader.specs.declared.fault.GridFault.TheVariants as grid
@@ -7,6 +7,8 @@ use Rattle.cli_inputs.specs.Sentences.{grid_number, var_number}
 use Rattle.causes_query.specs.declared.fault.CauseFault.{CauseFault}
 use Rattle.causes_query.specs.declared.fault.CauseFault.TheVariants as cause
 use Rattle.io_text.specs.declared.fault.ReadFault.TheVariants as read
+use Rattle.search_differences.specs.declared.side.Side.{Side}
+use Rattle.search_differences.specs.declared.side.Side.TheVariants as side
 use Rattle.text_state.specs.declared.fault.StateFault.TheVariants as state
 use Rattle.text_trace.specs.declared.fault.SimFault.TheVariants as sim
 use Rattle.cli_inputs.specs.declared.fault.TextKind.{TextKind}
@@ -35,30 +37,43 @@ abbrev pub numbered : List ℕ → ℕ → List ℕ
 numbered text number = text ++ (decimal number ++ codes "\n")
 
 -- A rule of the declarations and its line; out of memory has no line of the text.
-abbrev pub var_line : VarRule → ℕ → List ℕ
-var_line var.Memory line = codes "fault V9\n"
-var_line rule line = codes "fault V" ++ (decimal (var_number rule) ++ numbered (codes " line ") line)
+abbrev pub var_words : VarRule → ℕ → List ℕ
+var_words var.Memory line = codes "V9\n"
+var_words rule line = codes "V" ++ (decimal (var_number rule) ++ numbered (codes " line ") line)
 
 -- By the letter: V, A and G the rules of a program text, C those of a question, and X what else stops a request. Records are counted from 1,
 -- a bad one is X2; X1 is a text that can't be read, X5 one that is too long, X6 a writer that failed, and X7, the rest, out of memory.
+abbrev pub fault_words : ToolFault → List ℕ
+fault_words (fault.Grid (grid.Vars f)) = var_words f.rule f.line
+fault_words (fault.Grid (grid.Grid r rung line)) =
+    codes "G" ++ (decimal (grid_number r) ++ (codes " rung " ++ (decimal rung ++ numbered (codes " line ") line)))
+fault_words (fault.Title f) = numbered (codes "A1 line ") f.line
+fault_words (fault.Cause f) = numbered (codes "C") (cause_number f)
+fault_words fault.NoScans = codes "C8\n"
+fault_words (fault.Read k read.Read) = codes "X1 " ++ (kind_word k ++ codes "\n")
+fault_words (fault.Read k read.TooLong) = codes "X5 " ++ (kind_word k ++ codes "\n")
+fault_words (fault.State (state.BadRow row)) = numbered (codes "X2 state row ") row
+fault_words (fault.Word number) = numbered (codes "X3 word ") number
+fault_words (fault.Watched number) = numbered (codes "X3 watch ") number
+fault_words fault.Both = codes "X3 both\n"
+fault_words (fault.Sim (sim.BadRow row)) = numbered (codes "X2 stimulus row ") row
+fault_words (fault.Sim (sim.UnknownName row)) = numbered (codes "X3 row ") row
+fault_words (fault.Sim (sim.MomentBack row)) = numbered (codes "X4 row ") row
+fault_words (fault.Sim (sim.TooLong row)) = numbered (codes "X5 row ") row
+fault_words (fault.Sim sim.Write) = codes "X6\n"
+fault_words fault.Write = codes "X6\n"
+fault_words fault.Usage = codes "usage\n"
+fault_words other = codes "X7\n"
+
+-- A line begins so; where there are two programs, it tells of which the fault is.
+abbrev pub lead : Option Side → List ℕ
+lead None = codes "fault "
+lead (Some side.Old) = codes "fault old "
+lead (Some side.New) = codes "fault new "
+
+abbrev pub line_by : Option Side → ToolFault → List ℕ
+line_by side f = lead side ++ fault_words f
+
+-- the line of a fault where there is one program
 abbrev pub fault_line : ToolFault → List ℕ
-fault_line (fault.Grid (grid.Vars f)) = var_line f.rule f.line
-fault_line (fault.Grid (grid.Grid r rung line)) =
-    codes "fault G" ++ (decimal (grid_number r) ++ (codes " rung " ++ (decimal rung ++ numbered (codes " line ") line)))
-fault_line (fault.Title f) = numbered (codes "fault A1 line ") f.line
-fault_line (fault.Cause f) = numbered (codes "fault C") (cause_number f)
-fault_line fault.NoScans = codes "fault C8\n"
-fault_line (fault.Read k read.Read) = codes "fault X1 " ++ (kind_word k ++ codes "\n")
-fault_line (fault.Read k read.TooLong) = codes "fault X5 " ++ (kind_word k ++ codes "\n")
-fault_line (fault.State (state.BadRow row)) = numbered (codes "fault X2 state row ") row
-fault_line (fault.Word number) = numbered (codes "fault X3 word ") number
-fault_line (fault.Watched number) = numbered (codes "fault X3 watch ") number
-fault_line fault.Both = codes "fault X3 both\n"
-fault_line (fault.Sim (sim.BadRow row)) = numbered (codes "fault X2 stimulus row ") row
-fault_line (fault.Sim (sim.UnknownName row)) = numbered (codes "fault X3 row ") row
-fault_line (fault.Sim (sim.MomentBack row)) = numbered (codes "fault X4 row ") row
-fault_line (fault.Sim (sim.TooLong row)) = numbered (codes "fault X5 row ") row
-fault_line (fault.Sim sim.Write) = codes "fault X6\n"
-fault_line fault.Write = codes "fault X6\n"
-fault_line fault.Usage = codes "fault usage\n"
-fault_line other = codes "fault X7\n"
+fault_line = line_by None

@@ -5,3 +5,4 @@ pub mod Setting
 pub mod Reports
 pub mod Reasons
 pub mod Sentences
+pub mod Reading

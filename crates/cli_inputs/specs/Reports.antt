@@ -3,10 +3,11 @@ use Rattle.std.specs.Prelude.{◌≡◌, ◌⊎◌, ◌∷◌, ℕ, List, Bool, 
 use Rattle.diagram_declarations.specs.Decls.{Declared}
 use Rattle.causes_query.specs.declared.fault.CauseFault.{CauseFault}
 use Rattle.causes_query.specs.declared.fault.CauseFault.TheVariants as cause
+use Rattle.search_differences.specs.declared.side.Side.{Side}
 use Rattle.io_text.specs.Log.{PutsAll, PutsPrefix, WriteLog}
 use Rattle.cli_inputs.specs.declared.fault.ToolFault.{ToolFault}
 use Rattle.cli_inputs.specs.declared.fault.ToolFault.TheVariants as fault
-use Rattle.cli_inputs.specs.Explained.{IsMarked, report_of}
+use Rattle.cli_inputs.specs.Explained.{IsMarked, report_by}
 use Rattle.cli_inputs.specs.Setting.{Given}
 use Rattle.cli_inputs.specs.Variables.{IsUnknownWord}
 
@@ -20,10 +21,14 @@ abbrev pub logs : WriteLog → WriteLog → WriteLog → Logs
 logs out save err = record { out = out; save = save; err = err }
 
 -- What is said of a fault was written, or a prefix of it before the writer failed. A column that is marked is one of the fault's.
-abbrev pub IsReported : Given → WriteLog → WriteLog → ToolFault → Type 0
-IsReported g old new f =
+abbrev pub IsReportedBy : Option Side → Given → WriteLog → WriteLog → ToolFault → Type 0
+IsReportedBy side g old new f =
     (column : Option ℕ) × IsMarked g.program f column
-    × (PutsAll old new (report_of g.why g.program f column) ⊎ PutsPrefix old new (report_of g.why g.program f column))
+    × (PutsAll old new (report_by side g.why g.program f column) ⊎ PutsPrefix old new (report_by side g.why g.program f column))
+
+-- the same where there is one program
+abbrev pub IsReported : Given → WriteLog → WriteLog → ToolFault → Type 0
+IsReported = IsReportedBy None
 
 -- no text was read
 abbrev pub unread : Bool → Given

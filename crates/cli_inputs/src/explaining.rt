@@ -3,11 +3,12 @@
 ghost use Rattle.std.specs.Prelude.{◌≡◌, ◌≤◌, ◌++◌, codes, IfSome};
 ghost use Rattle.diagram_program.specs.declared.geometry.TheConstants.{COLUMNS};
 ghost use Rattle.io_text.specs.Log.{Puts};
-ghost use Rattle.cli_inputs.specs.Explained.{explained, report_of, sentence};
+ghost use Rattle.cli_inputs.specs.Explained.{explained, report_by, report_of, sentence};
 
-use crate::fault::{ToolFault, cause_rule, write_fault};
+use crate::fault::{ToolFault, cause_rule, write_line};
 use crate::reason::write_reason;
 use io_text::{Piece, ReadFault, Sink, WriteFault, put_pieces};
+use search_differences::Side;
 use text_state::StateFault;
 use text_trace::SimFault;
 
@@ -87,7 +88,22 @@ pub fn write_report<W: Sink>(
     requires { IfSome column (λ c. c ≤ COLUMNS) }
     ensures { Puts (W.log writer.old) (W.log writer.new) result (report_of why text.now fault.now column) }
 {
-    write_fault(fault, writer)?;
+    write_report_by(None, why, text, fault, column, writer)
+}
+
+/// The same, with the program that the fault is of, where there are two.
+pub(crate) fn write_report_by<W: Sink>(
+    side: Option<Side>,
+    why: bool,
+    text: &[u8],
+    fault: &ToolFault,
+    column: Option<usize>,
+    writer: &mut W,
+) -> Result<(), WriteFault>
+    requires { IfSome column (λ c. c ≤ COLUMNS) }
+    ensures { Puts (W.log writer.old) (W.log writer.new) result (report_by side why text.now fault.now column) }
+{
+    write_line(side, fault, writer)?;
     if why {
         return explain(text, fault, column, writer);
     }

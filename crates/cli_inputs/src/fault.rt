@@ -1,16 +1,18 @@
 //! What stops a request, and the line that says so.
 
 ghost use Rattle.std.specs.Prelude.{◌≡◌};
+ghost use Rattle.io_text.specs.Buffer.{Sends};
 ghost use Rattle.io_text.specs.Log.{Puts};
-ghost use Rattle.cli_inputs.specs.FaultLine.{cause_number, fault_line, kind_word, numbered, var_line};
+ghost use Rattle.cli_inputs.specs.FaultLine.{cause_number, fault_line, fault_words, kind_word, lead, line_by, numbered, var_words};
 ghost use Rattle.cli_inputs.specs.Explained.{cause_sentence};
-ghost use Rattle.cli_inputs.specs.declared.fault.ToolFault.TheVariants.{Read, Sim};
+ghost use Rattle.cli_inputs.specs.declared.fault.ToolFault.TheVariants.{Read, Sim, State};
 
 use crate::rule::{RuleText, grid_rule, rule_text, var_rule};
 use causes_query::CauseFault;
 use diagram_declarations::{TitleFault, VarFault, VarRule};
 use diagram_reader::GridFault;
-use io_text::{Piece, ReadFault, Sink, WriteFault, put, put_pieces};
+use io_text::{Piece, ReadFault, Sink, TextBuffer, WriteFault, add_pieces};
+use search_differences::Side;
 use text_state::StateFault;
 use text_trace::SimFault;
 use thiserror::Error;
@@ -73,11 +75,59 @@ pub enum ToolFault {
 pub fn write_fault<W: Sink>(fault: &ToolFault, writer: &mut W) -> Result<(), WriteFault>
     ensures { Puts (W.log writer.old) (W.log writer.new) result (fault_line fault.now) }
 {
+    write_line(None, fault, writer)
+}
+
+/// Writes the line of a fault, which tells of which program it is, where there are two.
+pub(crate) fn write_line<W: Sink>(
+    side: Option<Side>,
+    fault: &ToolFault,
+    writer: &mut W,
+) -> Result<(), WriteFault>
+    ensures { Puts (W.log writer.old) (W.log writer.new) result (line_by side fault.now) }
+{
+    let mut buffer = TextBuffer::new();
+    add_line(&mut buffer, side, fault, writer)?;
+    buffer.flush(writer)
+}
+
+/// Adds the line of a fault.
+fn add_line<W: Sink>(
+    buffer: &mut TextBuffer,
+    side: Option<Side>,
+    fault: &ToolFault,
+    writer: &mut W,
+) -> Result<(), WriteFault>
+    ensures { Sends (W.log writer.old) (W.log writer.new) buffer.old buffer.new result (line_by side fault.now) }
+{
+    buffer.add(lead(side), writer)?;
+    add_words(buffer, fault, writer)
+}
+
+/// What a fault line begins with.
+fn lead(side: Option<Side>) -> &'static [u8]
+    ensures { result.now ≡ lead side }
+{
+    match side {
+        None => b"fault ",
+        Some(Side::Old) => b"fault old ",
+        Some(Side::New) => b"fault new ",
+    }
+}
+
+/// Adds what follows in the line of a fault: its rule, and where it shows.
+fn add_words<W: Sink>(
+    buffer: &mut TextBuffer,
+    fault: &ToolFault,
+    writer: &mut W,
+) -> Result<(), WriteFault>
+    ensures { Sends (W.log writer.old) (W.log writer.new) buffer.old buffer.new result (fault_words fault.now) }
+{
     match *fault {
-        ToolFault::Grid(GridFault::Vars(fault)) => write_var_fault(fault, writer),
+        ToolFault::Grid(GridFault::Vars(fault)) => add_var_fault(buffer, fault, writer),
         ToolFault::Grid(GridFault::Grid { rule, rung, line }) => {
             let pieces = [
-                Piece::Text(b"fault G"),
+                Piece::Text(b"G"),
                 Piece::Number(grid_rule(rule).number),
                 Piece::Text(b" rung "),
                 Piece::Number(rung as u64),
@@ -85,84 +135,109 @@ pub fn write_fault<W: Sink>(fault: &ToolFault, writer: &mut W) -> Result<(), Wri
                 Piece::Number(line as u64),
                 Piece::Text(b"\n"),
             ];
-            put_pieces(writer, pieces.as_slice())
+            add_pieces(buffer, pieces.as_slice(), writer)
         }
-        ToolFault::Title(fault) => write_numbered(b"fault A1 line ", fault.line as u64, writer),
-        ToolFault::Cause(fault) => write_numbered(b"fault C", cause_rule(fault).number, writer),
-        ToolFault::NoScans => put(writer, b"fault C8\n"),
-        ToolFault::Read(kind, fault) => write_read_fault(kind, fault, writer),
-        ToolFault::State(StateFault::BadRow { row }) => {
-            write_numbered(b"fault X2 state row ", row, writer)
-        }
-        ToolFault::State(StateFault::Memory) => put(writer, b"fault X7\n"),
-        ToolFault::Word { number } => write_numbered(b"fault X3 word ", number as u64, writer),
-        ToolFault::Watched { number } => write_numbered(b"fault X3 watch ", number as u64, writer),
-        ToolFault::Both => put(writer, b"fault X3 both\n"),
-        ToolFault::Sim(fault) => write_sim_fault(fault, writer),
-        ToolFault::Write => put(writer, b"fault X6\n"),
-        ToolFault::Memory => put(writer, b"fault X7\n"),
-        ToolFault::Usage => put(writer, b"fault usage\n"),
+        ToolFault::Title(fault) => add_numbered(buffer, b"A1 line ", fault.line as u64, writer),
+        ToolFault::Cause(fault) => add_numbered(buffer, b"C", cause_rule(fault).number, writer),
+        ToolFault::NoScans => buffer.add(b"C8\n", writer),
+        ToolFault::Read(kind, fault) => add_read_fault(buffer, kind, fault, writer),
+        ToolFault::State(fault) => add_state_fault(buffer, fault, writer),
+        ToolFault::Word { number } => add_numbered(buffer, b"X3 word ", number as u64, writer),
+        ToolFault::Watched { number } => add_numbered(buffer, b"X3 watch ", number as u64, writer),
+        ToolFault::Both => buffer.add(b"X3 both\n", writer),
+        ToolFault::Sim(fault) => add_sim_fault(buffer, fault, writer),
+        ToolFault::Write => buffer.add(b"X6\n", writer),
+        ToolFault::Memory => buffer.add(b"X7\n", writer),
+        ToolFault::Usage => buffer.add(b"usage\n", writer),
     }
 }
 
-/// Writes the line of a fault of the declarations: its rule and its line.
-fn write_var_fault<W: Sink>(fault: VarFault, writer: &mut W) -> Result<(), WriteFault>
-    ensures { Puts (W.log writer.old) (W.log writer.new) result (var_line fault.rule fault.line) }
+/// Adds a fault of the declarations: its rule and its line.
+fn add_var_fault<W: Sink>(
+    buffer: &mut TextBuffer,
+    fault: VarFault,
+    writer: &mut W,
+) -> Result<(), WriteFault>
+    ensures { Sends (W.log writer.old) (W.log writer.new) buffer.old buffer.new result (var_words fault.rule fault.line) }
 {
     if fault.rule == VarRule::Memory {
-        return put(writer, b"fault V9\n");
+        return buffer.add(b"V9\n", writer);
     }
     let pieces = [
-        Piece::Text(b"fault V"),
+        Piece::Text(b"V"),
         Piece::Number(var_rule(fault.rule).number),
         Piece::Text(b" line "),
         Piece::Number(fault.line as u64),
         Piece::Text(b"\n"),
     ];
-    put_pieces(writer, pieces.as_slice())
+    add_pieces(buffer, pieces.as_slice(), writer)
 }
 
-/// Writes the line of a text that can't be read: unreadable, too long, or out of memory.
-fn write_read_fault<W: Sink>(
+/// Adds that a text can't be read: unreadable, too long, or out of memory.
+fn add_read_fault<W: Sink>(
+    buffer: &mut TextBuffer,
     kind: TextKind,
     fault: ReadFault,
     writer: &mut W,
 ) -> Result<(), WriteFault>
-    ensures { Puts (W.log writer.old) (W.log writer.new) result (fault_line (Read kind fault)) }
+    ensures { Sends (W.log writer.old) (W.log writer.new) buffer.old buffer.new result (fault_words (Read kind fault)) }
 {
     let rule: &[u8] = match fault {
-        ReadFault::Read => b"fault X1 ",
-        ReadFault::TooLong => b"fault X5 ",
-        ReadFault::Memory => return put(writer, b"fault X7\n"),
+        ReadFault::Read => b"X1 ",
+        ReadFault::TooLong => b"X5 ",
+        ReadFault::Memory => return buffer.add(b"X7\n", writer),
     };
     let pieces = [
         Piece::Text(rule),
         Piece::Text(kind_word(kind)),
         Piece::Text(b"\n"),
     ];
-    put_pieces(writer, pieces.as_slice())
+    add_pieces(buffer, pieces.as_slice(), writer)
 }
 
-/// Writes the line of a fault of a simulation, with the row of the stimulus.
-fn write_sim_fault<W: Sink>(fault: SimFault, writer: &mut W) -> Result<(), WriteFault>
-    ensures { Puts (W.log writer.old) (W.log writer.new) result (fault_line (Sim fault)) }
+/// Adds a fault of a state, with its row.
+fn add_state_fault<W: Sink>(
+    buffer: &mut TextBuffer,
+    fault: StateFault,
+    writer: &mut W,
+) -> Result<(), WriteFault>
+    ensures { Sends (W.log writer.old) (W.log writer.new) buffer.old buffer.new result (fault_words (State fault)) }
 {
     match fault {
-        SimFault::BadRow { row } => write_numbered(b"fault X2 stimulus row ", row, writer),
-        SimFault::UnknownName { row } => write_numbered(b"fault X3 row ", row, writer),
-        SimFault::MomentBack { row } => write_numbered(b"fault X4 row ", row, writer),
-        SimFault::TooLong { row } => write_numbered(b"fault X5 row ", row, writer),
-        SimFault::Write => put(writer, b"fault X6\n"),
-        SimFault::Memory => put(writer, b"fault X7\n"),
+        StateFault::BadRow { row } => add_numbered(buffer, b"X2 state row ", row, writer),
+        StateFault::Memory => buffer.add(b"X7\n", writer),
     }
 }
 
-/// Writes a fault line that ends with a number.
-fn write_numbered<W: Sink>(text: &[u8], number: u64, writer: &mut W) -> Result<(), WriteFault>
-    ensures { Puts (W.log writer.old) (W.log writer.new) result (numbered text.now number) }
+/// Adds a fault of a simulation, with the row of the stimulus.
+fn add_sim_fault<W: Sink>(
+    buffer: &mut TextBuffer,
+    fault: SimFault,
+    writer: &mut W,
+) -> Result<(), WriteFault>
+    ensures { Sends (W.log writer.old) (W.log writer.new) buffer.old buffer.new result (fault_words (Sim fault)) }
+{
+    match fault {
+        SimFault::BadRow { row } => add_numbered(buffer, b"X2 stimulus row ", row, writer),
+        SimFault::UnknownName { row } => add_numbered(buffer, b"X3 row ", row, writer),
+        SimFault::MomentBack { row } => add_numbered(buffer, b"X4 row ", row, writer),
+        SimFault::TooLong { row } => add_numbered(buffer, b"X5 row ", row, writer),
+        SimFault::Write => buffer.add(b"X6\n", writer),
+        SimFault::Memory => buffer.add(b"X7\n", writer),
+    }
+}
+
+/// Adds a text, a number and the end of the line.
+fn add_numbered<W: Sink>(
+    buffer: &mut TextBuffer,
+    text: &[u8],
+    number: u64,
+    writer: &mut W,
+) -> Result<(), WriteFault>
+    ensures { Sends (W.log writer.old) (W.log writer.new) buffer.old buffer.new result (numbered text.now number) }
 {
     let pieces = [Piece::Text(text), Piece::Number(number), Piece::Text(b"\n")];
-    put_pieces(writer, pieces.as_slice())
+    add_pieces(buffer, pieces.as_slice(), writer)
 }
 
 /// What a text is called in a fault line.

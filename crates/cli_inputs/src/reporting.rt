@@ -2,14 +2,15 @@
 
 ghost use Rattle.std.specs.Prelude.{◌≡◌};
 ghost use Rattle.cli_inputs.specs.Explained.{IsMarked};
-ghost use Rattle.cli_inputs.specs.Reports.{IsReported, unread};
+ghost use Rattle.cli_inputs.specs.Reports.{IsReported, IsReportedBy, unread};
 ghost use Rattle.cli_inputs.specs.Setting.{given_by};
 
-use crate::explaining::write_report;
+use crate::explaining::write_report_by;
 use crate::fault::ToolFault;
 use crate::texts::Texts;
 use diagram_reader::GridFault;
 use io_text::Sink;
+use search_differences::Side;
 use std::alloc::Global;
 
 /// The column in which a program text breaks the rule of the fault.
@@ -40,8 +41,16 @@ pub fn report<E: Sink>(texts: &Texts, fault: &ToolFault, err: &mut E) -> u8
     ensures status { result ≡ 1 }
     ensures line { IsReported (given_by texts.now) (E.log err.old) (E.log err.new) fault.now }
 {
+    report_by(None, texts, fault, err)
+}
+
+/// The same, with the program that the fault is of, where there are two.
+pub fn report_by<E: Sink>(side: Option<Side>, texts: &Texts, fault: &ToolFault, err: &mut E) -> u8
+    ensures status { result ≡ 1 }
+    ensures line { IsReportedBy side (given_by texts.now) (E.log err.old) (E.log err.new) fault.now }
+{
     let column = marked(texts, fault);
-    match write_report(texts.why, &texts.program, fault, column, err) {
+    match write_report_by(side, texts.why, &texts.program, fault, column, err) {
         Ok(()) => 1,
         Err(_) => 1,
     }
@@ -52,7 +61,20 @@ pub fn report_unread<E: Sink>(why: bool, fault: &ToolFault, err: &mut E) -> u8
     ensures status { result ≡ 1 }
     ensures line { IsReported (unread why) (E.log err.old) (E.log err.new) fault.now }
 {
-    match write_report(why, &[], fault, None, err) {
+    report_unread_by(None, why, fault, err)
+}
+
+/// The same, with the program that the fault is of, where there are two.
+pub fn report_unread_by<E: Sink>(
+    side: Option<Side>,
+    why: bool,
+    fault: &ToolFault,
+    err: &mut E,
+) -> u8
+    ensures status { result ≡ 1 }
+    ensures line { IsReportedBy side (unread why) (E.log err.old) (E.log err.new) fault.now }
+{
+    match write_report_by(side, why, &[], fault, None, err) {
         Ok(()) => 1,
         Err(_) => 1,
     }

@@ -43,7 +43,11 @@ pub fn read_given_program(alloc: Global, texts: &Texts) -> Result<Program, ToolF
 }
 
 /// The state that a text describes, or the fresh one without a text.
-fn starting_state(
+///
+/// # Errors
+///
+/// The fault of the text, or out of memory.
+pub fn starting_state(
     alloc: Global,
     program: &Program,
     text: &Option<Vec<u8>>,

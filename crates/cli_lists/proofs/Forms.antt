@@ -34,7 +34,8 @@ use Rattle.cli_arguments.specs.declared.request.GroupFormat.{GroupFormat}
 use Rattle.cli_arguments.specs.declared.request.InputOrder.{InputOrder}
 use Rattle.cli_arguments.specs.declared.request.InputOrder.TheVariants as order
 use Rattle.cli_questions.specs.declared.counting.ListCounts.TheVariants as counts
-use Rattle.cli_lists.specs.Lists.{IsFirstFault, cause_counts, causes_text, form_on, group_counts, groups_text, held_fault, held_for, held_group_counts, held_group_fault, held_groups_for, ordered}
+use Rattle.cli_questions.specs.Forms.{form_on}
+use Rattle.cli_lists.specs.Lists.{IsFirstFault, cause_counts, causes_text, group_counts, groups_text, held_fault, held_for, held_group_counts, held_group_fault, held_groups_for, ordered}
 
 summary_is : (s : Summary) (rows looks : ℕ) → s.rows ≡ rows → s.looks ≡ looks → counts.Causes s ≡ counts.Causes (record { rows = rows; looks = looks })
 summary_is s rows looks h l = ap (λ (n : ℕ). counts.Causes (record { rows = n; looks = s.looks })) h ∙ ap (λ (n : ℕ). counts.Causes (record { rows = rows; looks = n })) l

@@ -31,14 +31,11 @@ use Rattle.text_lists.specs.HeldText.{held_text}
 use Rattle.text_causes.specs.Parts.{part, part_looks}
 use Rattle.text_causes.specs.Progress.{TellsAll, TellsUntil}
 use Rattle.text_causes.specs.TermText.{form_text}
-use Rattle.text_causes.specs.declared.group_text.GroupForm.{GroupForm}
-use Rattle.text_causes.specs.declared.group_text.GroupForm.TheVariants as group_form
 use Rattle.text_causes.specs.declared.progress.ProgressFault.TheVariants as progress
 use Rattle.io_text.specs.Log.{PutsAll, PutsPrefix, WriteLog}
 use Rattle.cli_inputs.specs.declared.fault.ToolFault.{ToolFault}
 use Rattle.cli_inputs.specs.declared.fault.ToolFault.TheVariants as fault
 use Rattle.cli_arguments.specs.declared.request.GroupFormat.{GroupFormat}
-use Rattle.cli_arguments.specs.declared.request.GroupFormat.TheVariants.{Statement, Table, Terms}
 use Rattle.cli_arguments.specs.declared.request.Grouping.{Grouping}
 use Rattle.cli_arguments.specs.declared.request.InputOrder.{InputOrder}
 use Rattle.cli_arguments.specs.declared.request.InputOrder.TheVariants as order
@@ -47,6 +44,7 @@ use Rattle.cli_questions.specs.declared.counting.ListCounts.{ListCounts}
 use Rattle.cli_questions.specs.declared.counting.ListCounts.TheVariants as counts
 use Rattle.cli_inputs.specs.Setting.{Given}
 use Rattle.cli_inputs.specs.Reports.{HasCauseFault, IsReported, Logs}
+use Rattle.cli_questions.specs.Forms.{form_on}
 use Rattle.cli_questions.specs.Ending.{BreaksAsked, BreaksOff, CountsAsked, Ends, Form, HasAskedFault, HasRequestFault, IsAsked, IsOnCoil, Lists, ListsAsked, counts_line, unless_quiet}
 
 -- ---- a list of causes
@@ -185,12 +183,6 @@ HasHeldFaultBy grouped g r s = HasRequestFault (λ q. IsFirstFault (held_refusal
 -- the rows of all causes, or the first of them where there is a limit
 abbrev pub rows_for : Option ℕ → Question → List Row
 rows_for limit q = limited limit (groups.rows (is_cause q) (length q.listed) 0)
-
--- a form for the groups of a coil
-abbrev pub form_on : GroupFormat → ℕ → GroupForm
-form_on Table coil = group_form.Table
-form_on Terms coil = group_form.Terms
-form_on Statement coil = group_form.Statement coil
 
 -- what is asked, with the inputs in this order
 abbrev pub ordered : InputOrder → Question → Question

@@ -6,35 +6,24 @@ ghost use Rattle.causes_query.specs.Refusal.{reason, refusal};
 ghost use Rattle.io_text.specs.Log.{PutsAll, WriteLog};
 ghost use Rattle.cli_questions.specs.Query.{question_of};
 ghost use Rattle.cli_inputs.specs.Reports.{Refuses, logs};
-ghost use Rattle.cli_lists.specs.Lists.{BreaksGroups, CountsGroups, HasListFault, form_on, ordered};
+ghost use Rattle.cli_lists.specs.Lists.{BreaksGroups, CountsGroups, HasListFault, ordered};
 ghost use Rattle.cli_inputs.specs.Setting.{given_by};
 
 use causes_one_scan::laws::orders;
 use causes_one_scan::{Groups, sifted};
 use causes_query::CauseFault;
-use cli_arguments::{GroupFormat, Grouping, InputOrder, ListRequest};
+use cli_arguments::{Grouping, InputOrder, ListRequest};
 use cli_inputs::{Texts, ToolFault};
-use cli_questions::{ListCounts, ListForm, ListQuery, list_request};
+use cli_questions::{ListCounts, ListForm, ListQuery, form_of, list_request};
 use io_text::Sink;
 use std::alloc::Global;
-use text_causes::{GroupForm, write_groups};
+use text_causes::write_groups;
 
 /// A row for each group of causes, in a form and by an order.
 #[derive(Clone, Copy)]
 pub(crate) struct GroupRows {
     pub how: Grouping,
     pub limit: Option<u64>,
-}
-
-/// The form for the groups of a coil.
-fn form_of(form: GroupFormat, coil: usize) -> GroupForm
-    ensures { result ≡ form_on form coil }
-{
-    match form {
-        GroupFormat::Table => GroupForm::Table,
-        GroupFormat::Terms => GroupForm::Terms,
-        GroupFormat::Statement => GroupForm::Statement { coil },
-    }
 }
 
 /// Puts the listed inputs in an order.

@@ -5,6 +5,7 @@
 -- `ladder show [--state STATE] [--at MS] [--number N] [--stimulus STIMULUS] [--html] [--coil COIL] [--all-inputs] FILE [INPUT]...`,
 -- `ladder sim [--state STATE] [--save STATE] [--every MS] [--watch NAME]... [--watch-all] [--vcd] FILE STIMULUS`, `ladder uses FILE` and `ladder never [--state STATE] [--off] [--pairs] [--quiet] FILE`, each with `[--aliases] [--why]`;
 -- `ladder reach [--state STATE] [--at MS] [--every MS] [--scans N] [--states N] [--both NAME] [--gap MS] [--progress] [--why] FILE NAME [INPUT]...`;
+-- `ladder diff [--state STATE] [--new-state STATE] [--at MS] [--after N] [--upto N] [--limit N] [--grouped] [--terms] [--st] [--all-inputs] [--quiet] [--aliases] [--why] OLD NEW COIL [INPUT]...`;
 -- `ladder import [--open] [--control on] [--hal FILE] [--why] PROJECT`;
 -- and `ladder explain [CODE]...`.
 use Rattle.std.specs.Prelude.{◌≡◌, List, Some, [], ◌∷◌, codes, true, false}
@@ -70,6 +71,13 @@ reach_app = taking (codes "reach") (
     ∷ text_rule (codes "both") ∷ number_rule (codes "gap") ∷ flag_rule (codes "progress") ∷ flag_rule (codes "why") ∷ place_rule (codes "file") ∷ place_rule (codes "name") ∷ list_rule (codes "inputs") ∷ []
     )
 
+abbrev pub diff_app : App
+diff_app = taking (codes "diff") (
+    text_rule (codes "state") ∷ text_rule (codes "new-state") ∷ number_rule (codes "at") ∷ number_rule (codes "after") ∷ number_rule (codes "upto") ∷ number_rule (codes "limit")
+    ∷ flag_rule (codes "grouped") ∷ flag_rule (codes "terms") ∷ flag_rule (codes "st") ∷ flag_rule (codes "all-inputs") ∷ flag_rule (codes "quiet") ∷ flag_rule (codes "aliases") ∷ flag_rule (codes "why")
+    ∷ place_rule (codes "old") ∷ place_rule (codes "new") ∷ place_rule (codes "coil") ∷ list_rule (codes "inputs") ∷ []
+    )
+
 abbrev pub causes_app : App
 causes_app = taking (codes "causes") (
     text_rule (codes "state") ∷ number_rule (codes "at") ∷ number_rule (codes "after") ∷ number_rule (codes "upto") ∷ number_rule (codes "limit")
@@ -101,7 +109,7 @@ explain_app = taking (codes "explain") (list_rule (codes "codes") ∷ [])
 abbrev pub ladder_app : App
 ladder_app = record {
   top = record (new_shape (codes "ladder")) { is_leaf = false; subcommand_required = true };
-  subs = check_app.top ∷ causes_app.top ∷ show_app.top ∷ sim_app.top ∷ uses_app.top ∷ never_app.top ∷ reach_app.top ∷ import_app.top ∷ explain_app.top ∷ [];
+  subs = check_app.top ∷ causes_app.top ∷ show_app.top ∷ sim_app.top ∷ uses_app.top ∷ never_app.top ∷ reach_app.top ∷ diff_app.top ∷ import_app.top ∷ explain_app.top ∷ [];
 }
 
 -- a command with no argument that is common to all subcommands, which clap reads as this

@@ -2,20 +2,23 @@
 
 ghost use Rattle.std.specs.Prelude.{◌≡◌, ◌∷◌, [], IfOk, false, map};
 ghost use Rattle.clap.specs.Words.{App, app_of, rule_of};
-ghost use Rattle.cli_options.specs.CommandLine.{IsApp, causes_app, check_app, ladder_app, taking};
+ghost use Rattle.cli_options.specs.CommandLine.{IsApp, causes_app, check_app, ladder_app, never_app, show_app, sim_app, taking, uses_app};
 ghost use Rattle.cli_options.specs.Table.{bare_app, with_all, word_rule};
 
 use crate::help::{
     AFTER_HELP, ALIASES_HELP, ALL_COILS_HELP, ALL_HELP, ANY_HELP, AT_HELP, CAUSES_ABOUT,
-    CHECK_ABOUT, CODES_HELP, COIL_HELP, CONTROL_HELP, EVERY_HELP, EXPLAIN_ABOUT, EXPLAIN_HELP,
+    CHECK_ABOUT, CODES_HELP, COIL_HELP, CONTROL_HELP, DIFF_ABOUT, DIFF_AFTER_HELP, DIFF_ALL_HELP,
+    DIFF_AT_HELP, DIFF_COIL_HELP, DIFF_GROUPED_HELP, DIFF_INPUTS_HELP, DIFF_STATE_HELP,
+    DIFF_STATEMENT_HELP, DIFF_TERMS_HELP, DIFF_UPTO_HELP, EVERY_HELP, EXPLAIN_ABOUT, EXPLAIN_HELP,
     FAULTS, FILE_HELP, FILM_HELP, FOR_HELP, GROUPED_HELP, HAL_HELP, HOLD_HELP, HTML_HELP,
     IMPORT_ABOUT, INPUTS_HELP, LADDER_ABOUT, LIMIT_HELP, LOOKS_HELP, MUST_HELP, NEVER_ABOUT,
-    NEVER_OFF_HELP, NUMBER_HELP, OFF_HELP, OPEN_HELP, ORDER_HELP, PAIRS_HELP, PROGRESS_HELP,
-    PROJECT_HELP, QUIET_HELP, REACH_ABOUT, REACH_AT_HELP, REACH_BOTH_HELP, REACH_EVERY_HELP,
-    REACH_GAP_HELP, REACH_INPUTS_HELP, REACH_NAME_HELP, REACH_PROGRESS_HELP, REACH_SCANS_HELP,
-    REACH_STATES_HELP, REACHABLE_HELP, RELEVANT_HELP, RUN_STATES_HELP, RUNS_HELP, SAVE_HELP,
-    SCANS_HELP, SHOW_ABOUT, SHOWN_HELP, SIM_ABOUT, STATE_HELP, STATEMENT_HELP, STIMULUS_HELP,
-    TERMS_HELP, UPTO_HELP, USES_ABOUT, WARN_HELP, WATCH_ALL_HELP, WATCH_HELP, WAVES_HELP, WHY_HELP,
+    NEVER_OFF_HELP, NEW_HELP, NEW_STATE_HELP, NUMBER_HELP, OFF_HELP, OLD_HELP, OPEN_HELP,
+    ORDER_HELP, PAIRS_HELP, PROGRESS_HELP, PROJECT_HELP, QUIET_HELP, REACH_ABOUT, REACH_AT_HELP,
+    REACH_BOTH_HELP, REACH_EVERY_HELP, REACH_GAP_HELP, REACH_INPUTS_HELP, REACH_NAME_HELP,
+    REACH_PROGRESS_HELP, REACH_SCANS_HELP, REACH_STATES_HELP, REACHABLE_HELP, RELEVANT_HELP,
+    RUN_STATES_HELP, RUNS_HELP, SAVE_HELP, SCANS_HELP, SHOW_ABOUT, SHOWN_HELP, SIM_ABOUT,
+    STATE_HELP, STATEMENT_HELP, STIMULUS_HELP, TERMS_HELP, UPTO_HELP, USES_ABOUT, WARN_HELP,
+    WATCH_ALL_HELP, WATCH_HELP, WAVES_HELP, WHY_HELP,
 };
 use clap::{Arg, ArgAction, Command, value_parser};
 use std::alloc::{AllocError, Global};
@@ -87,6 +90,26 @@ const REACH: &[Word] = &[
     Word::List("inputs", "INPUT", REACH_INPUTS_HELP),
 ];
 
+const DIFF: &[Word] = &[
+    Word::Text("state", "STATE", DIFF_STATE_HELP),
+    Word::Text("new-state", "STATE", NEW_STATE_HELP),
+    Word::Number("at", "MS", DIFF_AT_HELP),
+    Word::Number("after", "N", DIFF_AFTER_HELP),
+    Word::Number("upto", "N", DIFF_UPTO_HELP),
+    Word::Number("limit", "N", LIMIT_HELP),
+    Word::Flag("grouped", DIFF_GROUPED_HELP),
+    Word::Flag("terms", DIFF_TERMS_HELP),
+    Word::Flag("st", DIFF_STATEMENT_HELP),
+    Word::Flag("all-inputs", DIFF_ALL_HELP),
+    Word::Flag("quiet", QUIET_HELP),
+    Word::Flag("aliases", ALIASES_HELP),
+    Word::Flag("why", EXPLAIN_HELP),
+    Word::Place("old", "OLD", OLD_HELP),
+    Word::Place("new", "NEW", NEW_HELP),
+    Word::Place("coil", "COIL", DIFF_COIL_HELP),
+    Word::List("inputs", "INPUT", DIFF_INPUTS_HELP),
+];
+
 const CAUSES: &[Word] = &[
     Word::Text("state", "STATE", STATE_HELP),
     Word::Number("at", "MS", AT_HELP),
@@ -156,7 +179,7 @@ const IMPORT: &[Word] = &[
 
 const EXPLAIN: &[Word] = &[Word::List("codes", "CODE", CODES_HELP)];
 
-/// The subcommands, in two tables: the proof of a function that names a table goes through all of it.
+/// The subcommands, in three tables: the proof of a function that names a table goes through all of it.
 const FIRST_SUBCOMMANDS: &[Subcommand] = &[
     Subcommand {
         name: "check",
@@ -170,7 +193,7 @@ const FIRST_SUBCOMMANDS: &[Subcommand] = &[
     },
 ];
 
-const OTHER_SUBCOMMANDS: &[Subcommand] = &[
+const VIEW_SUBCOMMANDS: &[Subcommand] = &[
     Subcommand {
         name: "show",
         about: SHOW_ABOUT,
@@ -191,10 +214,18 @@ const OTHER_SUBCOMMANDS: &[Subcommand] = &[
         about: NEVER_ABOUT,
         words: NEVER,
     },
+];
+
+const OTHER_SUBCOMMANDS: &[Subcommand] = &[
     Subcommand {
         name: "reach",
         about: REACH_ABOUT,
         words: REACH,
+    },
+    Subcommand {
+        name: "diff",
+        about: DIFF_ABOUT,
+        words: DIFF,
     },
     Subcommand {
         name: "import",
@@ -294,6 +325,13 @@ fn begun<'a>(alloc: Global) -> Result<Command<'a>, AllocError>
     with_subcommands(alloc, top(alloc), FIRST_SUBCOMMANDS)
 }
 
+/// The command with those of its subcommands that show something as well.
+fn continued<'a>(alloc: Global) -> Result<Command<'a>, AllocError>
+    ensures { IfOk result (λ c. app_of c ≡ record ladder_app { subs = check_app.top ∷ causes_app.top ∷ show_app.top ∷ sim_app.top ∷ uses_app.top ∷ never_app.top ∷ [] }) }
+{
+    with_subcommands(alloc, begun(alloc)?, VIEW_SUBCOMMANDS)
+}
+
 /// The whole command line of the program `ladder`, with all subcommands.
 ///
 /// # Errors
@@ -302,5 +340,5 @@ fn begun<'a>(alloc: Global) -> Result<Command<'a>, AllocError>
 pub fn ladder<'a>(alloc: Global) -> Result<Command<'a>, AllocError>
     ensures { IfOk result (λ c. app_of c ≡ ladder_app) }
 {
-    with_subcommands(alloc, begun(alloc)?, OTHER_SUBCOMMANDS)
+    with_subcommands(alloc, continued(alloc)?, OTHER_SUBCOMMANDS)
 }

@@ -69,6 +69,45 @@ pub(crate) const REACH_NAME_HELP: &str =
 pub(crate) const REACH_INPUTS_HELP: &str =
     "Inputs that change; the others keep what the state stores. Without one all inputs change";
 
+pub(crate) const DIFF_ABOUT: &str =
+    "Lists the combinations of inputs with which two programs leave a coil different";
+
+pub(crate) const OLD_HELP: &str = "The program text before the change";
+
+pub(crate) const NEW_HELP: &str = "The program text after it";
+
+pub(crate) const DIFF_STATE_HELP: &str =
+    "A saved state of OLD, which is carried over to NEW by the names of both; without it each begins in its fresh state";
+
+pub(crate) const NEW_STATE_HELP: &str =
+    "A saved state of NEW, in place of what would be carried over";
+
+pub(crate) const DIFF_AT_HELP: &str =
+    "The moment of the scan of both, in ms; without it the one that each state stores";
+
+pub(crate) const DIFF_AFTER_HELP: &str =
+    "Lists the rows with a greater number than N only; not with --grouped";
+
+pub(crate) const DIFF_UPTO_HELP: &str = "Ends the list at the number N; not with --grouped";
+
+pub(crate) const DIFF_COIL_HELP: &str =
+    "A variable that a coil of both programs writes, in any letter case";
+
+pub(crate) const DIFF_INPUTS_HELP: &str =
+    "Inputs of both programs to list, at most 32; the others keep what the state of each stores";
+
+pub(crate) const DIFF_GROUPED_HELP: &str =
+    "A row for each group: first the combinations with which OLD alone leaves the coil ON, then those of NEW alone";
+
+pub(crate) const DIFF_TERMS_HELP: &str =
+    "With --grouped: each row is the inputs that matter, joined by AND, after `-` where OLD alone leaves the coil ON, and `+` where NEW alone does";
+
+pub(crate) const DIFF_STATEMENT_HELP: &str =
+    "With --grouped: two statements in Structured Text, COIL_old for what OLD alone does and COIL_new for what NEW alone does";
+
+pub(crate) const DIFF_ALL_HELP: &str =
+    "Lists all inputs that both programs have, in the order of OLD";
+
 pub(crate) const IMPORT_ABOUT: &str =
     "Writes the program text of a ClassicLadder project, or says what of it can't be carried over";
 

@@ -1,23 +1,16 @@
 //! The reading of a request's files, and its performance on them.
 
-ghost use Rattle.std.specs.Prelude.{◌≡◌, ◌≤◌, ◌⊎◌, IfErr, IfOk, option_map, vec_items};
-ghost use Rattle.cli_perform.specs.Files.{AreRead, AreUnread, AreWhole, IsUnread, IsWhole, StopsAt, files, largest};
-ghost use Rattle.io_text.specs.declared.fault.ReadFault.{ReadFault};
+ghost use Rattle.std.specs.Prelude.{◌≡◌, ◌≤◌, ◌⊎◌, IfErr, IfOk, option_map};
+ghost use Rattle.cli_perform.specs.Files.{AreRead, StopsAt, files};
 ghost use Rattle.cli_inputs.specs.Reports.{Refuses, logs, unread};
 ghost use Rattle.cli_perform.specs.Performs.{IsDone, IsFailed};
 ghost use Rattle.cli_inputs.specs.Setting.{Given, given_by};
 
 use crate::performing::perform;
 use cli_arguments::CommandLine;
-use cli_inputs::{TextKind, Texts, ToolFault, report_unread};
-use io_text::{Sink, Source, read_text};
+use cli_inputs::{TextKind, Texts, ToolFault, read_named, read_one, report_unread};
+use io_text::{Sink, Source};
 use std::alloc::Global;
-
-/// The largest text of a program, a state or a HAL file, in bytes.
-pub(crate) const TEXT_LIMIT: usize = 1_048_576;
-
-/// The largest stimulus, in bytes.
-pub(crate) const STIMULUS_LIMIT: usize = 16_777_216;
 
 /// The readers of a request's files: of the program, and of the state, the stimulus and a HAL file where the request names them.
 #[derive(Drop)]
@@ -26,45 +19,6 @@ pub struct Readers<R: Source> {
     pub state: Option<R>,
     pub stimulus: Option<R>,
     pub hal: Option<R>,
-}
-
-/// How many bytes a text of this kind may have.
-fn limit(kind: TextKind) -> usize
-    ensures { result ≡ largest kind }
-{
-    match kind {
-        TextKind::Program | TextKind::State | TextKind::Hal => TEXT_LIMIT,
-        TextKind::Stimulus => STIMULUS_LIMIT,
-    }
-}
-
-/// Reads a text of this kind, or says why it can't be read.
-fn read_one<R: Source>(alloc: Global, kind: TextKind, reader: &mut R) -> Result<Vec<u8>, ToolFault>
-    ensures whole { IfOk result (λ text. IsWhole kind (R.log reader.old) text.items) }
-    ensures fault { IfErr result (λ e. (f : ReadFault) × (e ≡ ToolFault.Read kind f) × IsUnread kind (R.log reader.old) (R.log reader.new) f) }
-{
-    match read_text(alloc, reader, limit(kind)) {
-        Ok(text) => Ok(text),
-        Err(fault) => Err(ToolFault::Read(kind, fault)),
-    }
-}
-
-/// Reads a text of a kind, where the request names one.
-fn read_named<R: Source>(
-    alloc: Global,
-    kind: TextKind,
-    reader: &mut Option<R>,
-) -> Result<Option<Vec<u8>>, ToolFault>
-    ensures whole { IfOk result (λ text. AreWhole kind (option_map R.log reader.old) (option_map vec_items text)) }
-    ensures fault { IfErr result (λ e. (f : ReadFault) × (e ≡ ToolFault.Read kind f) × AreUnread kind (option_map R.log reader.old) (option_map R.log reader.new) f) }
-{
-    match reader {
-        Some(reader) => {
-            let text = read_one(alloc, kind, reader)?;
-            Ok(Some(text))
-        }
-        None => Ok(None),
-    }
 }
 
 /// Reads the texts of the request of a command line, up to the first that can't be read: the program, then the state, the stimulus and the HAL

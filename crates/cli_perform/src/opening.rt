@@ -1,7 +1,8 @@
 //! The files that a request reads.
 
 use crate::files::Readers;
-use cli_arguments::Request;
+use cli_arguments::{DiffRequest, Request};
+use cli_diff::DiffReaders;
 use io_text::CountedReader;
 use std::fs::{self, File};
 use std::io::{self, Read};
@@ -128,5 +129,18 @@ pub(crate) fn readers_of<'a>(
             let sim = &watched.sim;
             simulated(rt, sim.file.as_str(), &sim.state, sim.stimulus.as_str())
         }
+    }
+}
+
+/// The readers of the files of a comparison, none of which was opened yet.
+pub(crate) fn diff_readers_of<'a>(
+    rt: &'a HostRuntime,
+    request: &'a DiffRequest,
+) -> DiffReaders<CountedReader<NamedFile<'a>>> {
+    DiffReaders {
+        old_program: reading(rt, request.old.as_str()),
+        new_program: reading(rt, request.new.as_str()),
+        old_state: reading_named(rt, &request.state),
+        new_state: reading_named(rt, &request.new_state),
     }
 }

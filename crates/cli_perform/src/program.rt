@@ -4,10 +4,13 @@ ghost use Rattle.std.specs.Prelude.{◌≤◌};
 
 use crate::files::perform_files;
 use crate::folder::run_coils;
-use crate::opening::readers_of;
+use crate::opening::{diff_readers_of, readers_of};
 use crate::saving::{SavedFile, followed};
 use crate::telling::telling;
-use cli_arguments::{AllCoils, CommandLine, Request, SimRequest, Task, WordFault, read_words};
+use cli_arguments::{
+    AllCoils, CommandLine, DiffRequest, Request, SimRequest, Task, WordFault, read_words,
+};
+use cli_diff::compare_files;
 use cli_inputs::{ToolFault, write_fault};
 use cli_options::{codes, page_of};
 use io_text::{CountedWriter, Sink, WriteFault, put};
@@ -30,6 +33,7 @@ pub fn run(rt: &HostRuntime, alloc: Global, words: Vec<String>) -> u8
     match read_words(alloc, words) {
         Ok(Task::Perform(line)) => run_line(rt, alloc, &seen_on(rt, line)),
         Ok(Task::PerformAll(mut all)) => run_all(rt, alloc, &mut all),
+        Ok(Task::Compare(request)) => run_diff(rt, alloc, &request),
         Ok(Task::Explain(names)) => explain(rt, &names),
         Err(fault) => refuse(rt, why, &fault),
     }
@@ -131,6 +135,18 @@ fn run_all(rt: &HostRuntime, alloc: Global, all: &mut AllCoils) -> u8
     // As for one request.
     let _places = (no_file(rt), no_file(rt), no_file(rt));
     run_coils(rt, alloc, all)
+}
+
+/// Compares two programs over their files and the standard streams.
+fn run_diff(rt: &HostRuntime, alloc: Global, request: &DiffRequest) -> u8
+    ensures { result ≤ 2 }
+{
+    // As for one request.
+    let _places = (no_file(rt), no_file(rt), no_file(rt));
+    let mut readers = diff_readers_of(rt, request);
+    let mut out = CountedWriter::new(io::writer(rt));
+    let mut err = CountedWriter::new(rt.stderr());
+    compare_files(alloc, request, &mut readers, &mut out, &mut err)
 }
 
 /// Performs a simulation whose state is saved. A file that the request reads but for the state, or standard output, is no place for it.

@@ -17,12 +17,13 @@ use Rattle.cli_inputs.specs.Reports.{HasWordFault, IsReported, Logs}
 abbrev pub held_line : ℕ → List ℕ
 held_line rows = codes "rows " ++ (decimal rows ++ codes "\n")
 
--- The rows, and what else is counted: `looks L`, `causes C`, `unsettled U`.
+-- The rows, and what else is counted: `looks L`, `causes C`, `unsettled U`, `differences D`.
 abbrev pub counts_line : ListCounts → List ℕ
 counts_line (counts.Rows rows) = held_line rows
 counts_line (counts.Causes s) = codes "rows " ++ (decimal s.rows ++ (codes " looks " ++ (decimal s.looks ++ codes "\n")))
 counts_line (counts.Groups s) = codes "rows " ++ (decimal s.rows ++ (codes " causes " ++ (decimal s.causes ++ codes "\n")))
 counts_line (counts.Possible rows unsettled) = codes "rows " ++ (decimal rows ++ (codes " unsettled " ++ (decimal unsettled ++ codes "\n")))
+counts_line (counts.Differences rows differences) = codes "rows " ++ (decimal rows ++ (codes " differences " ++ (decimal differences ++ codes "\n")))
 counts_line (counts.PossibleGroups rows causes unsettled) =
     codes "rows " ++ (decimal rows ++ (codes " causes " ++ (decimal causes ++ (codes " unsettled " ++ (decimal unsettled ++ codes "\n")))))
 

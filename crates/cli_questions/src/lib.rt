@@ -4,7 +4,9 @@
 mod asking;
 mod counting;
 mod ending;
+mod forms;
 
 pub use asking::{ListQuery, read_question, read_request};
 pub use counting::{ListCounts, put_count, put_counts};
 pub use ending::{ListForm, list_asked, list_request};
+pub use forms::form_of;

@@ -4,9 +4,9 @@ mod RunLaws
 mod RowLaws
 pub mod Taking
 mod PartLaws
-mod GroupRows
+pub mod GroupRows
 mod CellLaws
-mod TermLaws
+pub mod TermLaws
 mod FormLaws
 pub mod TwoFields
 mod TellLaws

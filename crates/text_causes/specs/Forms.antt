@@ -1,4 +1,4 @@
--- Private to the writer of groups: the text of a form in three parts, and the rows as far as they are written.
+-- The text of a form in three parts, and the rows as far as they are written.
 use Rattle.std.specs.Prelude.{if◌then◌else◌, ◌++◌, ℕ, Bool, false, List, [], ◌∷◌, codes, map}
 use Rattle.io_text.specs.Text.{line_text}
 use Rattle.diagram_program.specs.Program.{Drawing}

@@ -1,4 +1,4 @@
--- Private to the writer of causes: what a limit leaves after some rows.
+-- What a limit leaves after some rows.
 use Rattle.std.specs.Prelude.{◌-◌, ℕ, Option, Some, None}
 
 abbrev pub limit_left : Option ℕ → ℕ → Option ℕ

@@ -1,4 +1,4 @@
--- Private to the writer of terms: a term as far as it is written.
+-- A term as far as it is written.
 use Rattle.std.specs.Prelude.{◌++◌, ℕ, Bool, true, false, List, [], ◌∷◌, codes}
 use Rattle.text_causes.specs.declared.term_text.Brackets.{Brackets}
 use Rattle.text_causes.specs.declared.term_text.Brackets.TheVariants.{Round, Without}

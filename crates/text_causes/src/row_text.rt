@@ -21,7 +21,7 @@ pub const DIGITS: usize = 20;
 pub const ROW: usize = 149;
 
 /// The title of a variable, as it is spelled where it is declared.
-pub(crate) fn name_bytes(decls: &Decls, var: usize) -> &[u8]
+pub fn name_bytes(decls: &Decls, var: usize) -> &[u8]
     ensures { result.now ≡ name_in (slice_get decls.now.vars var) }
 {
     match decls.vars().get(var) {

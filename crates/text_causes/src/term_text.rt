@@ -31,7 +31,7 @@ pub(crate) fn is_on(group: Group, place: usize) -> bool
 
 /// What is around a term.
 #[derive(Clone, Copy)]
-pub(crate) enum Brackets {
+pub enum Brackets {
     Round,
     Without,
 }
@@ -85,7 +85,11 @@ fn add_literal<W: Sink>(
 }
 
 /// Adds a group as a term: the listed inputs that matter in it.
-pub(crate) fn add_term<W: Sink>(
+///
+/// # Errors
+///
+/// `WriteFault` when the writer failed.
+pub fn add_term<W: Sink>(
     buffer: &mut TextBuffer,
     brackets: Brackets,
     decls: &Decls,

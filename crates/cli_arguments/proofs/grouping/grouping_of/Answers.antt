@@ -1,8 +1,7 @@
 use Rattle.std.proofs.Common.{refl}
 use Rattle.std.proofs.lemmas.Result.{err_from_is_err_and}
 use Rattle.clap.specs.Words.{found_of, rows_of}
-use Rattle.cli_arguments.specs.Asking.{HasForm, HasOrder}
-use Rattle.cli_arguments.specs.Parts.{HasGrouping}
+use Rattle.cli_arguments.specs.Asking.{HasForm, HasGrouping, HasOrder}
 use Rattle.cli_arguments.specs.declared.request.GroupFormat.{GroupFormat}
 use Rattle.cli_arguments.specs.declared.request.Grouping.{Grouping}
 use Rattle.cli_arguments.specs.declared.request.InputOrder.{InputOrder}

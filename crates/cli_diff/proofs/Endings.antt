@@ -1,0 +1,23 @@
+-- How a comparison ends, from what each step of it ensures.
+use Rattle.std.proofs.Common.{◌⊎◌, refl, subst, Err, inl, inr}
+use Rattle.causes_query.specs.Causes.{Question}
+use Rattle.io_text.specs.Log.{WriteLog}
+use Rattle.search_differences.specs.declared.side.Side.{Side}
+use Rattle.cli_arguments.specs.declared.request.DiffRequest.{DiffRequest}
+use Rattle.cli_inputs.specs.Reports.{IsReportedBy, logs}
+use Rattle.cli_inputs.specs.Setting.{Given}
+use Rattle.cli_diff.specs.Asking.{AreAsked}
+use Rattle.cli_diff.specs.Ending.{BreaksDiff, RefusesOf, WritesOf}
+use Rattle.cli_diff.specs.Faults.{HasDiffFault, IsRefusedOf, given_of}
+use Rattle.cli_diff.specs.Listing.{DiffList}
+use Rattle.cli_diff.specs.declared.sided.SidedFault.{SidedFault}
+
+module _ (g h : Given) (r : DiffRequest) (old new : Question) (asked : AreAsked g h r old new) where
+  -- A list that was refused, or that broke off.
+  pub broken : (e : SidedFault) (save o o' s s' : WriteLog) → WritesOf (DiffList r.form r.limit old new) (IsRefusedOf r.form old new) o o' (Err e)
+      → IsReportedBy e.side (given_of e.side g h) s s' e.fault
+      → RefusesOf g h (HasDiffFault g h r) (logs o save s) (logs o' save s') ⊎ BreaksDiff g h r (logs o save s) (logs o' save s')
+  broken e save o o' s s' (inl w) said =
+      inl (record { side = e.side; reason = e.fault; has = inr (old, new, asked, w.0); unwritten = w.1; unsaved = refl {a = save}; reported = said })
+  broken e save o o' s s' (inr w) said =
+      inr (inl (w.1.0, (old, new, asked, w.1.1), w.1.2, subst (λ (f : SidedFault). IsReportedBy f.side (given_of f.side g h) s s' f.fault) w.0 said))

@@ -1,0 +1,9 @@
+use Rattle.cli_inputs.specs.Setting.{given_by}
+use Rattle.cli_questions.specs.Query.{question_of}
+use Rattle.cli_diff.proofs.Endings.{broken}
+use Rattle.cli_diff.proofs.comparing.compare.Goals as goal
+
+pub returns-in-Err-written-clause-failed : goal.returns-in-Err-written-clause-failed
+returns-in-Err-written-clause-failed g c = λ save status.
+    broken (given_by c.args.texts.now.old) (given_by c.args.texts.now.new) c.args.request.now (question_of c.in-Ok.asked.old) (question_of c.in-Ok.asked.new)
+    c.in-Ok.ensures.asked c.in-Err-written.fault save _ _ _ _ c.in-Err-written.ensures c.report-in-Err-written.ensures.line

@@ -1,0 +1,5 @@
+pub mod Asking
+pub mod Faults
+pub mod Listing
+pub mod Ending
+pub mod Files

@@ -1,0 +1,48 @@
+-- The list of what two programs do differently, and what is counted of it.
+use Rattle.std.specs.Prelude.{◌≡◌, ◌+◌, ℕ, List, Option, None, Some, IfSome, length}
+use Rattle.causes_query.specs.Causes.{Question}
+use Rattle.causes_query.specs.Refusal.{refusal}
+use Rattle.search_differences.specs.declared.sought.Sought.{Sought}
+use Rattle.search_differences.specs.declared.sought.Sought.TheVariants.{OldAlone, NewAlone}
+use Rattle.search_groups.specs.Groups.{Row, rows}
+use Rattle.diff_causes.specs.GroupCursor.{differences_in}
+use Rattle.diff_causes.specs.Differences.{differences_after, is_sought_difference}
+use Rattle.diff_causes.specs.declared.rows.Difference.{Difference}
+use Rattle.text_causes.specs.CauseText.{limited}
+use Rattle.text_differences.specs.DifferenceText.{difference_text, part}
+use Rattle.text_causes.specs.Limit.{limit_left}
+use Rattle.text_differences.specs.GroupText.{difference_group_text}
+use Rattle.cli_arguments.specs.declared.request.DiffForm.{DiffForm}
+use Rattle.cli_arguments.specs.declared.request.DiffForm.TheVariants.{Rows, Groups}
+use Rattle.cli_questions.specs.Ending.{Listing}
+use Rattle.cli_questions.specs.Forms.{form_on}
+use Rattle.cli_questions.specs.declared.counting.ListCounts.TheVariants as counts
+use Rattle.cli_diff.specs.Faults.{after_of, old_refusal}
+
+-- the rows from a number on and up to another, or the first of them
+abbrev pub differences_for : Option ℕ → Option ℕ → Option ℕ → Question → Question → List Difference
+differences_for limit after upto old new = limited limit (part upto (differences_after after old new))
+
+-- the groups of the numbers that one program alone chooses
+abbrev pub groups_alone : Sought → Question → Question → List Row
+groups_alone sought old new = rows (is_sought_difference sought old new) (length old.listed) 0
+
+-- the first of them: those of the old program, and then as many of the new one as the limit leaves
+abbrev pub old_groups : Option ℕ → Question → Question → List Row
+old_groups limit old new = limited limit (groups_alone OldAlone old new)
+
+abbrev pub new_groups : Option ℕ → Question → Question → List Row
+new_groups limit old new = limited (limit_left limit (length (old_groups limit old new))) (groups_alone NewAlone old new)
+
+abbrev pub HasText : DiffForm → Option ℕ → Question → Question → Listing
+HasText (Rows after upto) limit old new text c =
+    (text ≡ difference_text old.program old.listed (differences_for limit after upto old new))
+    × IfSome c (λ n. n ≡ counts.Rows (length (differences_for limit after upto old new)))
+HasText (Groups g) limit old new text c =
+    (text ≡ difference_group_text (form_on g.form old.coil) old.program old.listed (old_groups limit old new) (new_groups limit old new))
+    × IfSome c (λ n. n ≡ counts.Differences (length (old_groups limit old new) + length (new_groups limit old new))
+    (differences_in (old_groups limit old new) + differences_in (new_groups limit old new)))
+
+-- Neither question is refused, and this is the text of the list.
+abbrev pub DiffList : DiffForm → Option ℕ → Question → Question → Listing
+DiffList form limit old new text c = (old_refusal form old ≡ None) × (refusal new (after_of form) ≡ None) × HasText form limit old new text c

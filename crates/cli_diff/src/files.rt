@@ -1,0 +1,105 @@
+//! The reading of the files of a comparison, and its performance on them.
+
+ghost use Rattle.std.specs.Prelude.{◌≡◌, ◌≤◌, ◌⊎◌, IfErr, IfOk, option_map, vec_items};
+ghost use Rattle.io_text.specs.Log.{PutsAll, WriteLog};
+ghost use Rattle.cli_inputs.specs.Reports.{logs, unread};
+ghost use Rattle.cli_inputs.specs.Setting.{Given, given_by};
+ghost use Rattle.cli_diff.specs.Ending.{BreaksDiff, CountsDiff, RefusesOf};
+ghost use Rattle.cli_diff.specs.Faults.{HasDiffFault};
+ghost use Rattle.cli_diff.specs.Files.{AreBothRead, IsSaidOf, StopsAtOne, diff_files};
+
+use crate::comparing::compare;
+use crate::sided::{SidedFault, of};
+use crate::texts::DiffTexts;
+use cli_arguments::DiffRequest;
+use cli_inputs::{TextKind, Texts, read_named, read_one, report_unread_by};
+use io_text::{Sink, Source};
+use search_differences::Side;
+use std::alloc::Global;
+
+/// The readers of the files of a comparison: of both programs, and of their states where the request names them.
+#[derive(Drop)]
+pub struct DiffReaders<R: Source> {
+    pub old_program: R,
+    pub new_program: R,
+    pub old_state: Option<R>,
+    pub new_state: Option<R>,
+}
+
+/// The texts of one program.
+fn texts_of(program: Vec<u8>, state: Option<Vec<u8>>, request: &DiffRequest) -> Texts
+    ensures program { (given_by result).program ≡ program.items }
+    ensures state { (given_by result).state ≡ option_map vec_items state }
+    ensures why { result.why ≡ request.now.why }
+    ensures aliases { result.aliases ≡ request.now.aliases }
+{
+    Texts {
+        program,
+        state,
+        stimulus: None,
+        hal: None,
+        why: request.why,
+        aliases: request.aliases,
+    }
+}
+
+/// Reads the texts of a comparison, up to the first that can't be read: the old program, the new one, and their states in this order.
+fn read_texts<R: Source>(
+    alloc: Global,
+    request: &DiffRequest,
+    readers: &mut DiffReaders<R>,
+) -> Result<DiffTexts, SidedFault>
+    ensures why { IfOk result (λ t. (t.old.why ≡ request.now.why) × (t.new.why ≡ request.now.why)) }
+    ensures aliases { IfOk result (λ t. (t.old.aliases ≡ request.now.aliases) × (t.new.aliases ≡ request.now.aliases)) }
+    ensures read { IfOk result (λ t. AreBothRead (diff_files (R.log readers.old.old_program) (R.log readers.old.new_program) (option_map R.log readers.old.old_state) (option_map R.log readers.old.new_state)) (given_by t.old) (given_by t.new)) }
+    ensures fault { IfErr result (λ e. StopsAtOne (diff_files (R.log readers.old.old_program) (R.log readers.old.new_program) (option_map R.log readers.old.old_state) (option_map R.log readers.old.new_state))
+        (diff_files (R.log readers.new.old_program) (R.log readers.new.new_program) (option_map R.log readers.new.old_state) (option_map R.log readers.new.new_state)) e.side e.fault) }
+{
+    let old = match read_one(alloc, TextKind::Program, &mut readers.old_program) {
+        Ok(text) => text,
+        Err(fault) => return Err(of(Side::Old, fault)),
+    };
+    let new = match read_one(alloc, TextKind::Program, &mut readers.new_program) {
+        Ok(text) => text,
+        Err(fault) => return Err(of(Side::New, fault)),
+    };
+    let state = match read_named(alloc, TextKind::State, &mut readers.old_state) {
+        Ok(text) => text,
+        Err(fault) => return Err(of(Side::Old, fault)),
+    };
+    match read_named(alloc, TextKind::State, &mut readers.new_state) {
+        Ok(new_state) => Ok(DiffTexts {
+            old: texts_of(old, state, request),
+            new: texts_of(new, new_state, request),
+        }),
+        Err(fault) => Err(of(Side::New, fault)),
+    }
+}
+
+/// Reads the texts of a comparison and performs it on them, as `compare` does. A text that can't be read is a fault, whose line is on `err`.
+/// Returns the status: 0 where all was written, 1 where a fault stopped it.
+pub fn compare_files<R: Source, O: Sink, E: Sink>(
+    alloc: Global,
+    request: &DiffRequest,
+    readers: &mut DiffReaders<R>,
+    out: &mut O,
+    err: &mut E,
+) -> u8
+    ensures status { result ≤ 1 }
+    ensures done { result ≡ 0 → (g h : Given) × IsSaidOf g request.now × IsSaidOf h request.now
+        × AreBothRead (diff_files (R.log readers.old.old_program) (R.log readers.old.new_program) (option_map R.log readers.old.old_state) (option_map R.log readers.old.new_state)) g h
+        × CountsDiff g h request.now (O.log out.old) (O.log out.new) (PutsAll (E.log err.old) (E.log err.new)) }
+    ensures failed { (save : WriteLog) → result ≡ 1
+        → RefusesOf (unread request.now.why) (unread request.now.why) (StopsAtOne (diff_files (R.log readers.old.old_program) (R.log readers.old.new_program) (option_map R.log readers.old.old_state) (option_map R.log readers.old.new_state))
+        (diff_files (R.log readers.new.old_program) (R.log readers.new.new_program) (option_map R.log readers.new.old_state) (option_map R.log readers.new.new_state)))
+        (logs (O.log out.old) save (E.log err.old)) (logs (O.log out.new) save (E.log err.new))
+        ⊎ ((g h : Given) × IsSaidOf g request.now × IsSaidOf h request.now
+        × AreBothRead (diff_files (R.log readers.old.old_program) (R.log readers.old.new_program) (option_map R.log readers.old.old_state) (option_map R.log readers.old.new_state)) g h
+        × (RefusesOf g h (HasDiffFault g h request.now) (logs (O.log out.old) save (E.log err.old)) (logs (O.log out.new) save (E.log err.new))
+        ⊎ BreaksDiff g h request.now (logs (O.log out.old) save (E.log err.old)) (logs (O.log out.new) save (E.log err.new)))) }
+{
+    match read_texts(alloc, request, readers) {
+        Ok(texts) => compare(alloc, request, &texts, out, err),
+        Err(fault) => report_unread_by(fault.side, request.why, &fault.fault, err),
+    }
+}

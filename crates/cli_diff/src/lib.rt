@@ -1,0 +1,16 @@
+//! Compares two programs: with which combinations of inputs they leave a coil different.
+#![tactic(auto)]
+
+mod asking;
+mod comparing;
+mod files;
+mod grouping;
+mod listing;
+mod sided;
+mod texts;
+
+pub use asking::{DiffQuery, read_query};
+pub use comparing::compare;
+pub use files::{DiffReaders, compare_files};
+pub use sided::SidedFault;
+pub use texts::DiffTexts;

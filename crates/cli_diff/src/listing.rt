@@ -1,0 +1,111 @@
+//! A row for each combination with which two programs leave a coil different.
+
+ghost use Rattle.std.specs.Prelude.{◌≡◌, IfErr, IfOk, None, length};
+ghost use Rattle.scan_cycle.specs.Standing.{Fits};
+ghost use Rattle.causes_query.specs.Refusal.{refusal};
+ghost use Rattle.diff_causes.specs.Asked.{asked};
+ghost use Rattle.diff_causes.specs.Differences.{differences_after};
+ghost use Rattle.cli_arguments.specs.declared.request.DiffForm.TheVariants.{Rows};
+ghost use Rattle.cli_questions.specs.Query.{question_of};
+ghost use Rattle.cli_diff.specs.Ending.{WritesOf};
+ghost use Rattle.cli_diff.specs.Faults.{IsRefusedOf, bound_refusal, old_refusal};
+ghost use Rattle.cli_diff.specs.Listing.{DiffList};
+
+use crate::asking::DiffQuery;
+use crate::sided::{SidedFault, refused, unwritten};
+use causes_query::CauseFault;
+use causes_query::refusal::refusal;
+use cli_questions::{ListCounts, ListQuery};
+use diff_causes::{DifferenceFault, Differences, ProgramQuery};
+use io_text::Sink;
+use std::alloc::Global;
+use text_differences::write_differences;
+
+/// Which rows are listed: those after a number and up to another, where there are such.
+#[derive(Clone, Copy)]
+pub(crate) struct Bounds {
+    pub after: Option<u64>,
+    pub upto: Option<u64>,
+}
+
+/// What is asked of one of the programs, as the lists take it.
+pub(crate) fn program_query<'a>(query: &'a ListQuery) -> ProgramQuery<'a>
+    ensures { asked result ≡ question_of query.now }
+{
+    ProgramQuery {
+        program: &query.program,
+        state: &query.state,
+        now: query.moment,
+        coil: query.coil,
+        listed: &query.inputs,
+    }
+}
+
+/// The first rule that is broken by what is asked of the old program with the number to end at, where there is one.
+fn bound_refusal(bounds: Bounds, asked: &ListQuery) -> Option<CauseFault>
+    ensures { result ≡ bound_refusal (Rows bounds.after bounds.upto) (question_of asked.now) }
+{
+    match bounds.upto {
+        Some(last) => refusal(
+            &asked.program,
+            &asked.state,
+            asked.moment,
+            asked.coil,
+            &asked.inputs,
+            Some(last),
+        ),
+        None => None,
+    }
+}
+
+/// The differences from the first one on that is asked for.
+fn differences_of<'a>(
+    alloc: Global,
+    bounds: Bounds,
+    asked: &'a DiffQuery,
+) -> Result<Differences<'a>, SidedFault>
+    requires old { Fits asked.now.old.program asked.now.old.state }
+    requires new { Fits asked.now.new.program asked.now.new.state }
+    requires same { length asked.now.old.inputs.items ≡ length asked.now.new.inputs.items }
+    ensures old { IfOk result (λ c. c.asked_old ≡ question_of asked.now.old) }
+    ensures rest { IfOk result (λ c. c.rest ≡ differences_after bounds.after (question_of asked.now.old) (question_of asked.now.new)) }
+    ensures old_accepted { IfOk result (λ _. old_refusal (Rows bounds.after bounds.upto) (question_of asked.now.old) ≡ None) }
+    ensures new_accepted { IfOk result (λ _. refusal (question_of asked.now.new) bounds.after ≡ None) }
+    ensures refused { IfErr result (λ e. IsRefusedOf (Rows bounds.after bounds.upto) (question_of asked.now.old) (question_of asked.now.new) e.side e.fault) }
+{
+    if let Some(fault) = bound_refusal(bounds, &asked.old) {
+        return Err(refused(DifferenceFault::Old(fault)));
+    }
+    let old = program_query(&asked.old);
+    let new = program_query(&asked.new);
+    match Differences::new(alloc, old, new, bounds.after) {
+        Ok(differences) => Ok(differences),
+        Err(fault) => Err(refused(fault)),
+    }
+}
+
+/// Writes the rows of what is asked.
+pub(crate) fn write_rows<O: Sink>(
+    alloc: Global,
+    bounds: Bounds,
+    limit: Option<u64>,
+    asked: &DiffQuery,
+    out: &mut O,
+) -> Result<ListCounts, SidedFault>
+    requires old { Fits asked.now.old.program asked.now.old.state }
+    requires new { Fits asked.now.new.program asked.now.new.state }
+    requires same { length asked.now.old.inputs.items ≡ length asked.now.new.inputs.items }
+    ensures { WritesOf (DiffList (Rows bounds.after bounds.upto) limit (question_of asked.now.old) (question_of asked.now.new))
+        (IsRefusedOf (Rows bounds.after bounds.upto) (question_of asked.now.old) (question_of asked.now.new)) (O.log out.old) (O.log out.new) result }
+{
+    let mut differences = match differences_of(alloc, bounds, asked) {
+        Ok(differences) => differences,
+        Err(fault) => return Err(fault),
+    };
+    let written = write_differences(&mut differences, bounds.upto, limit, out);
+    drop(differences);
+    match written {
+        Ok(rows) => Ok(ListCounts::Rows(rows)),
+        Err(_) => Err(unwritten()),
+    }
+}

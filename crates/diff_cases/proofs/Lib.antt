@@ -1,0 +1,6 @@
+mod Contents
+mod PinnedBack
+mod Scanned
+mod Settling
+mod Stepping
+mod Together

@@ -1,0 +1,4 @@
+pub mod Alike
+pub mod Buffers
+pub mod Cases
+pub mod Traces

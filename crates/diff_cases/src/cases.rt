@@ -1,0 +1,188 @@
+//! Settling by cases, side by side, that one scan of each program leaves the target alike.
+
+ghost use Rattle.std.specs.Prelude.{◌≡◌, ◌≤◌, ◌<◌, IsTrue, false};
+ghost use Rattle.diff_cases.specs.Buffers.{AreAlikeBuffers, KeepAlikeBuffers};
+ghost use Rattle.diff_cases.specs.Cases.{BelongTogether, CanAnswerAlike, IsSettledAlike, IsToldAlike, answering_in, pinned_in};
+
+use crate::buffers::AlikeBuffers;
+use crate::choosing::choose;
+use crate::joint::{JointInstances, JointPoint};
+use crate::looking::{AlikeQuestion, Likeness, look};
+use crate::partners::Chosen;
+use crate::pinning::{answer_in, pin_answer_in, pin_in, told_in};
+use invariant_cases::{Answer, Point};
+use scan_signals::Tri;
+
+/// Whether it is settled, and how many looks are left.
+#[derive(Clone, Copy, Debug, PartialEq, Eq)]
+pub struct Search {
+    pub is_settled: bool,
+    pub looks: u32,
+}
+
+/// Whether the target is settled to be left alike from what is known in the case, by at most so many looks, each a scan of each program, with
+/// further cases. Both cases are the same afterwards. Whether instances can be compared isn't asked here: `are_of_one_kind` tells it.
+#[cycle(settling)]
+pub fn settle(question: AlikeQuestion<'_>, buffers: &mut AlikeBuffers, looks: u32) -> Search
+    requires { AreAlikeBuffers question.old.now question.new.now buffers.old }
+    ensures settled { IsTrue result.is_settled
+        → IsSettledAlike question.entry.old.now question.entry.new.now question.entry.matching.now question.entry.target buffers.old.of_old.case buffers.old.of_new.case }
+    ensures at_once { 0 < looks → IsToldAlike question.entry.old.now question.entry.new.now question.entry.target buffers.old.of_old.case buffers.old.of_new.case
+        → IsTrue result.is_settled }
+    ensures looks { result.looks ≤ looks }
+    ensures none { looks ≡ 0 → result.is_settled ≡ false }
+    ensures buffers { KeepAlikeBuffers question.entry.old.now question.entry.new.now buffers.old buffers.new }
+{
+    if looks == 0 {
+        return Search {
+            is_settled: false,
+            looks: 0,
+        };
+    }
+    let left = looks - 1;
+    match look(question, buffers) {
+        Likeness::Alike => Search {
+            is_settled: true,
+            looks: left,
+        },
+        Likeness::Different => Search {
+            is_settled: false,
+            looks: left,
+        },
+        Likeness::Open => match choose(question, buffers) {
+            Some(chosen) => split(question, chosen, buffers, left),
+            None => Search {
+                is_settled: false,
+                looks: left,
+            },
+        },
+    }
+}
+
+/// The same by cases of a point of one program, and of the one that belongs to it.
+#[cycle(settling)]
+fn split(
+    question: AlikeQuestion<'_>,
+    chosen: Chosen,
+    buffers: &mut AlikeBuffers,
+    looks: u32,
+) -> Search
+    requires { AreAlikeBuffers question.old.now question.new.now buffers.old }
+    ensures settled { IsTrue result.is_settled
+        → IsSettledAlike question.entry.old.now question.entry.new.now question.entry.matching.now question.entry.target buffers.old.of_old.case buffers.old.of_new.case }
+    ensures looks { result.looks ≤ looks }
+    ensures buffers { KeepAlikeBuffers question.entry.old.now question.entry.new.now buffers.old buffers.new }
+{
+    match chosen.point {
+        Point::Answer(inst) => {
+            let joint = buffers
+                .partners
+                .joint_instances(question, chosen.side, inst);
+            by_answers(question, joint, buffers, looks)
+        }
+        Point::Variable(_) | Point::Output(_) | Point::Memory(_) => {
+            let joint = buffers.partners.joint_point(question.matching, chosen);
+            by_values(question, joint, buffers, looks)
+        }
+    }
+}
+
+/// The same where the point is ON, and where it is OFF.
+#[cycle(settling)]
+fn by_values(
+    question: AlikeQuestion<'_>,
+    joint: JointPoint,
+    buffers: &mut AlikeBuffers,
+    looks: u32,
+) -> Search
+    requires buffers { AreAlikeBuffers question.old.now question.new.now buffers.old }
+    requires joint { BelongTogether question.matching.now joint }
+    ensures settled { IsTrue result.is_settled
+        → IsSettledAlike question.entry.old.now question.entry.new.now question.entry.matching.now question.entry.target buffers.old.of_old.case buffers.old.of_new.case }
+    ensures looks { result.looks ≤ looks }
+    ensures buffers { KeepAlikeBuffers question.entry.old.now question.entry.new.now buffers.old buffers.new }
+{
+    let on = with_value(question, joint, Tri::On, buffers, looks);
+    if !on.is_settled {
+        return on;
+    }
+    with_value(question, joint, Tri::Off, buffers, on.looks)
+}
+
+/// The same where the point has this value.
+#[cycle(settling)]
+fn with_value(
+    question: AlikeQuestion<'_>,
+    joint: JointPoint,
+    value: Tri,
+    buffers: &mut AlikeBuffers,
+    looks: u32,
+) -> Search
+    requires { AreAlikeBuffers question.old.now question.new.now buffers.old }
+    ensures settled { IsTrue result.is_settled
+        → IsSettledAlike question.entry.old.now question.entry.new.now question.entry.matching.now question.entry.target
+        (pinned_in buffers.old.of_old.case joint.old value) (pinned_in buffers.old.of_new.case joint.new value) }
+    ensures looks { result.looks ≤ looks }
+    ensures buffers { KeepAlikeBuffers question.entry.old.now question.entry.new.now buffers.old buffers.new }
+{
+    let old = told_in(joint.old, &buffers.of_old.case);
+    let new = told_in(joint.new, &buffers.of_new.case);
+    pin_in(joint.old, value, &mut buffers.of_old.case);
+    pin_in(joint.new, value, &mut buffers.of_new.case);
+    let search = settle(question, buffers, looks);
+    pin_in(joint.old, old, &mut buffers.of_old.case);
+    pin_in(joint.new, new, &mut buffers.of_new.case);
+    search
+}
+
+/// The same with each of the three answers of an instance.
+#[cycle(settling)]
+fn by_answers(
+    question: AlikeQuestion<'_>,
+    joint: JointInstances,
+    buffers: &mut AlikeBuffers,
+    looks: u32,
+) -> Search
+    requires buffers { AreAlikeBuffers question.old.now question.new.now buffers.old }
+    requires joint { CanAnswerAlike question.matching.now question.old.now question.new.now joint }
+    ensures settled { IsTrue result.is_settled
+        → IsSettledAlike question.entry.old.now question.entry.new.now question.entry.matching.now question.entry.target buffers.old.of_old.case buffers.old.of_new.case }
+    ensures looks { result.looks ≤ looks }
+    ensures buffers { KeepAlikeBuffers question.entry.old.now question.entry.new.now buffers.old buffers.new }
+{
+    let on = with_answer(question, joint, Answer::On, buffers, looks);
+    if !on.is_settled {
+        return on;
+    }
+    let off = with_answer(question, joint, Answer::Off, buffers, on.looks);
+    if !off.is_settled {
+        return off;
+    }
+    with_answer(question, joint, Answer::Input, buffers, off.looks)
+}
+
+/// The same with this answer of an instance.
+#[cycle(settling)]
+fn with_answer(
+    question: AlikeQuestion<'_>,
+    joint: JointInstances,
+    answer: Answer,
+    buffers: &mut AlikeBuffers,
+    looks: u32,
+) -> Search
+    requires { AreAlikeBuffers question.old.now question.new.now buffers.old }
+    ensures settled { IsTrue result.is_settled
+        → IsSettledAlike question.entry.old.now question.entry.new.now question.entry.matching.now question.entry.target
+        (answering_in buffers.old.of_old.case joint.old answer) (answering_in buffers.old.of_new.case joint.new answer) }
+    ensures looks { result.looks ≤ looks }
+    ensures buffers { KeepAlikeBuffers question.entry.old.now question.entry.new.now buffers.old buffers.new }
+{
+    let old = answer_in(joint.old, &buffers.of_old.case);
+    let new = answer_in(joint.new, &buffers.of_new.case);
+    pin_answer_in(joint.old, answer, &mut buffers.of_old.case);
+    pin_answer_in(joint.new, answer, &mut buffers.of_new.case);
+    let search = settle(question, buffers, looks);
+    pin_answer_in(joint.old, old, &mut buffers.of_old.case);
+    pin_answer_in(joint.new, new, &mut buffers.of_new.case);
+    search
+}

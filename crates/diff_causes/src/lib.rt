@@ -1,0 +1,14 @@
+//! Which combinations leave a coil ON in just one of two programs: rows, and their groups.
+#![tactic(auto)]
+
+mod fault;
+mod groups;
+mod number_scan;
+mod query;
+mod rows;
+mod trees;
+
+pub use fault::DifferenceFault;
+pub use groups::DifferenceGroups;
+pub use query::ProgramQuery;
+pub use rows::{Difference, Differences};

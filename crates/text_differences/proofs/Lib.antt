@@ -1,0 +1,3 @@
+mod RowLaws
+mod GroupLaws
+mod FormLaws

@@ -1,0 +1,3 @@
+pub mod DifferenceText
+pub mod GroupText
+pub mod Forms
