@@ -68,6 +68,7 @@ def requests(text, dice):
             ["causes", "--scans", "9", "--every", "700", "--limit", "99", "t.ld", coil, *listed],
             ["causes", "--any", "--limit", "9", "t.ld", coil, *listed[:3]],
             ["causes", "--any", "--runs", "--limit", "3", "t.ld", coil, *listed[:2]],
+            ["diff", "t.ld", "t.ld", coil, *listed],
             ["reach", "t.ld", coil],
         ]
     return asked, stimulus

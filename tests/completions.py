@@ -13,7 +13,7 @@ import tempfile
 
 ROOT = pathlib.Path(__file__).resolve().parent.parent
 FOLDER = ROOT / "completions"
-SUBCOMMANDS = ["causes", "check", "explain", "import", "never", "reach", "show", "sim", "uses"]
+SUBCOMMANDS = ["causes", "check", "diff", "explain", "import", "never", "reach", "show", "sim", "uses"]
 CIRCUIT = ROOT / "examples/emergency_stop/machine.ld"
 TIMERS = ROOT / "examples/star_delta/star_delta.ld"
 BISTABLE = ROOT / "examples/tank_two_pumps/tank.ld"
@@ -49,6 +49,9 @@ LINES = [
     (["reach", "machine.ld", "Motor", "EStop"], "St", ["Start", "Stop"]),
     (["reach", "star_delta.ld", "--both"], "", ["Both", "Delta", "Main", "Pause.Q", "RunUp.Q", "Star"]),
     (["reach", "--states"], "", []),
+    (["diff", "machine.ld"], "mach", ["machine.ld"]),
+    (["diff", "machine.ld", "machine.ld"], "", COILS),
+    (["diff", "--new-state", "s.csv", "machine.ld", "machine.ld", "Motor"], "", INPUTS),
     (["import", "--control"], "", ["on"]),
     (["help"], "s", ["show", "sim"]),
     (["explain"], "X", [f"X{number}" for number in range(1, 8)]),

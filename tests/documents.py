@@ -37,7 +37,7 @@ ROOT = pathlib.Path(__file__).resolve().parent.parent
 FOLLOWED = ["README.md", "docs/user/*.md", "examples/*/README.md", "examples/*/PICTURES.md", "man/ladder.1"]
 READ = ["README.md", "docs/**/*.md", "examples/**/*.md"]
 FAULTS = "docs/user/faults.md"
-SUBCOMMANDS = ["check", "causes", "show", "sim", "uses", "never", "reach", "import", "explain"]
+SUBCOMMANDS = ["check", "causes", "show", "sim", "uses", "never", "reach", "diff", "import", "explain"]
 # the faults that a text or a command can show, and those that have a section alone
 SHOWN = [f"V{number}" for number in range(1, 9)] + ["A1"] + [f"G{number}" for number in range(1, 16)]
 SHOWN += [f"C{number}" for number in range(1, 7)] + ["C8"] + [f"X{number}" for number in range(1, 7)] + [f"P{number}" for number in range(1, 7)] + ["usage"]

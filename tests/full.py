@@ -19,6 +19,7 @@ from compiling import compiled
 HERE = pathlib.Path(__file__).resolve().parent
 TEXTS = {
     "motor.ld": (HERE / "programs" / "motor.ld").read_bytes(),
+    "either.ld": (HERE / "programs" / "motor.ld").read_bytes().replace(b"|/|", b"| |"),
     "rhythm.ld": (HERE / "programs" / "rhythm.ld").read_bytes(),
     "running.csv": b"version,2\nmoment,10\nvar,Start,0\nvar,Stop,0\nvar,Motor,1\n",
     "stimulus.csv": b"moment,Start,Stop\n0,1,0\n10,0,0\n",
@@ -36,6 +37,8 @@ REQUESTS = (
     (("causes", "--any", "motor.ld", "Motor", "Start", "Stop"), 0),
     (("causes", "--any", "--runs", "motor.ld", "Motor", "Start", "Stop"), 0),
     (("show", "--state", "running.csv", "motor.ld", "Start", "Stop"), 0),
+    (("diff", "--state", "running.csv", "motor.ld", "either.ld", "Motor", "Start", "Stop"), 0),
+    (("diff", "--grouped", "motor.ld", "either.ld", "Motor", "Start", "Stop"), 0),
     (("reach", "--state", "running.csv", "motor.ld", "Motor", "Start"), 0),
     (("reach", "--every", "10", "rhythm.ld", "Y"), 0),
     (("reach", "--every", "100", "rhythm.ld", "Y"), 0),

@@ -30,6 +30,8 @@ TEXTS = {
     "long.csv": b"moment,Start,Stop\n0,1,0\n5,0,0\n18446744073709551615,1,1\n",
 }
 LINES = ("fault V9\n", "fault C7\n", "fault X7\n")
+# Of the old program, and of the new one.
+BOTH = tuple(line.replace("fault", f"fault {side}") for side in ("old", "new") for line in LINES)
 # With each request the lines that must come, among others.
 REQUESTS = (
     (("check", "motor.ld"), ("fault V9\n",)),
@@ -57,6 +59,8 @@ REQUESTS = (
     (("sim", "--watch-all", "--save", "saved.csv", "counter.ld", "count.csv"), ("fault V9\n", "fault X7\n")),
     (("sim", "--save", "saved.csv", "motor.ld", "long.csv"), ("fault V9\n", "fault X7\n")),
     (("sim", "--state", "running.csv", "--save", "saved.csv", "motor.ld", "long.csv"), ("fault V9\n", "fault X7\n")),
+    (("diff", "--state", "running.csv", "motor.ld", "motor.ld", "Motor", "Start", "Stop"), BOTH),
+    (("diff", "--grouped", "--all-inputs", "motor.ld", "motor.ld", "Motor"), BOTH),
     (("reach", "--state", "running.csv", "motor.ld", "Motor", "Start"), ("fault V9\n", "fault X7\n")),
     (("reach", "rhythm.ld", "Y"), ("fault V9\n", "fault X7\n")),
     (("reach", "--every", "100", "rhythm.ld", "Y"), ("fault V9\n", "fault X7\n")),
@@ -80,7 +84,7 @@ def ended(program, library, words, refused, counted=None, how="REFUSE"):
 def is_refused(words, whole, ending):
     """Whether the request ended by a line for being out of memory, and left what it must."""
     is_prefix = whole.out.startswith(ending.out) and ending.out[-1:] in ("", "\n") if words[0] == "sim" or "--stimulus" in words else not ending.out
-    return ending.status == 1 and ending.err in LINES and is_prefix and ending.saved is None
+    return ending.status == 1 and ending.err in LINES + BOTH and is_prefix and ending.saved is None
 
 
 def is_left_open(words, whole, ending):

@@ -140,7 +140,7 @@ def stimulus_from_a_pipe(program, folder):
         return differences(run(program, ["sim", "motor.ld", "-"], folder, stdin=stream), (TRACE, b"", 0))
 
 
-OF_PROGRAMS = ("check", "causes", "show", "sim", "uses", "never")
+OF_PROGRAMS = ("check", "causes", "show", "sim", "uses", "never", "diff")
 WITHOUT_ALIASES = ("reach", "import", "explain")
 CAUSES = ["causes", "motor.ld", "Motor", "Start", "Stop"]
 SIM = ["sim", "motor.ld", "stimulus.csv"]
@@ -195,6 +195,8 @@ SPECIAL = {
     "check/on-a-full-device": on_a_stream(["check", "motor.ld"], "stdout", full_device, (None, b"fault X6\n", 1)),
     "words/help/check": help_is_printed("check", "--help"),
     "words/help/reach": help_is_printed("reach", "--help"),
+    "words/help/diff": help_is_printed("diff", "--help"),
+    "diff/on-a-full-device": on_a_stream(["diff", "motor.ld", "motor.ld", "Motor"], "stdout", full_device, (None, b"fault X6\n", 1)),
     "aliases/in-help": aliases_in_help,
     "words/help/import": help_is_printed("import", "--help"),
     "causes/upto/parts-of-32-inputs": parts_of_32_inputs,
