@@ -31,7 +31,7 @@ _ladder() {
     local options file='' coil='' every='' place=0 number
     COMPREPLY=()
     if ((COMP_CWORD == 1)); then
-        mapfile -t COMPREPLY < <(compgen -W 'check causes show sim uses never reach import explain help --help' -- "$word")
+        mapfile -t COMPREPLY < <(compgen -W 'check causes show sim uses never reach diff import explain help --help' -- "$word")
         return
     fi
     case $subcommand in
@@ -43,9 +43,10 @@ _ladder() {
         import) options='--open --control --hal --why --help' ;;
         never) options='--state --off --pairs --quiet --aliases --why --help' ;;
         reach) options='--state --at --every --scans --states --both --gap --progress --why --help' ;;
+        diff) options='--state --new-state --at --after --upto --limit --grouped --terms --st --all-inputs --quiet --aliases --why --help' ;;
         explain) options='--help' ;;
         help)
-            mapfile -t COMPREPLY < <(compgen -W 'check causes show sim uses never reach import explain' -- "$word")
+            mapfile -t COMPREPLY < <(compgen -W 'check causes show sim uses never reach diff import explain' -- "$word")
             return
             ;;
     esac
@@ -56,7 +57,7 @@ _ladder() {
                 ((number++))
                 every=1
                 ;;
-            --state | --at | --after | --upto | --limit | --scans | --for | --every | --looks | --order | --number | --stimulus | --coil | --save | --watch | --states | --both | --gap | --control | --hal) ((number++)) ;;
+            --state | --new-state | --at | --after | --upto | --limit | --scans | --for | --every | --looks | --order | --number | --stimulus | --coil | --save | --watch | --states | --both | --gap | --control | --hal) ((number++)) ;;
             -*) ;;
             *)
                 ((place++))
@@ -66,7 +67,7 @@ _ladder() {
         esac
     done
     case $before in
-        --state | --save | --stimulus | --hal) mapfile -t COMPREPLY < <(compgen -f -- "$word") ;;
+        --state | --new-state | --save | --stimulus | --hal) mapfile -t COMPREPLY < <(compgen -f -- "$word") ;;
         --at | --after | --upto | --limit | --scans | --for | --every | --looks | --number | --states | --gap) ;;
         --all-coils) mapfile -t COMPREPLY < <(compgen -d -- "$word") ;;
         --order) mapfile -t COMPREPLY < <(compgen -W 'auto given' -- "$word") ;;
@@ -79,13 +80,15 @@ _ladder() {
                 mapfile -t COMPREPLY < <(compgen -W "$options" -- "$word")
             elif [[ $subcommand == explain ]]; then
                 mapfile -t COMPREPLY < <(compgen -W "$(_ladder_codes)" -- "$word")
-            elif ((place == 0)) || [[ $subcommand == sim && $place == 1 ]]; then
+            elif ((place == 0)) || [[ ($subcommand == sim || $subcommand == diff) && $place == 1 ]]; then
                 mapfile -t COMPREPLY < <(compgen -f -- "$word")
             elif [[ $subcommand == causes && -z $coil && -z $every ]]; then
                 mapfile -t COMPREPLY < <(compgen -W "$(_ladder_coils "$file")" -- "$word")
+            elif [[ $subcommand == diff && $place == 2 ]]; then
+                mapfile -t COMPREPLY < <(compgen -W "$(_ladder_coils "$file")" -- "$word")
             elif [[ $subcommand == reach && -z $coil ]]; then
                 mapfile -t COMPREPLY < <(compgen -W "$(_ladder_targets "$file")" -- "$word")
-            elif [[ $subcommand == causes || $subcommand == show || $subcommand == reach ]]; then
+            elif [[ $subcommand == causes || $subcommand == show || $subcommand == reach || $subcommand == diff ]]; then
                 mapfile -t COMPREPLY < <(compgen -W "$(_ladder_inputs "$file")" -- "$word")
             fi
             ;;

@@ -7,7 +7,7 @@ function __ladder_places
     for word in $words
         if test $due = 1
             set due 0
-        else if contains -- $word --state --at --after --upto --limit --scans --for --every --looks --order --number --stimulus --coil --all-coils --save --watch --states --both --gap --control --hal
+        else if contains -- $word --state --new-state --at --after --upto --limit --scans --for --every --looks --order --number --stimulus --coil --all-coils --save --watch --states --both --gap --control --hal
             set due 1
         else if not string match -q -- '-*' $word
             echo $word
@@ -70,19 +70,20 @@ complete -c ladder -n 'test (count (__ladder_places)) = 0' -a show -d 'Print the
 complete -c ladder -n 'test (count (__ladder_places)) = 0' -a sim -d 'Scan a stimulus record by record'
 complete -c ladder -n 'test (count (__ladder_places)) = 0' -a uses -d 'Print where each name is drawn'
 complete -c ladder -n 'test (count (__ladder_places)) = 0' -a reach -d 'Write a run that switches a coil ON, or say that there is none'
+complete -c ladder -n 'test (count (__ladder_places)) = 0' -a diff -d 'List what two programs do differently with a coil'
 complete -c ladder -n 'test (count (__ladder_places)) = 0' -a import -d 'Write the program text of a ClassicLadder project'
 complete -c ladder -n 'test (count (__ladder_places)) = 0' -a never -d 'Print what can never come ON'
 complete -c ladder -n 'test (count (__ladder_places)) = 0' -a explain -d 'Say what a fault means'
 complete -c ladder -n 'test (count (__ladder_places)) = 0' -a help -d 'Print help'
-complete -c ladder -n '__ladder_at help 1' -a 'check causes show sim uses never reach import explain'
+complete -c ladder -n '__ladder_at help 1' -a 'check causes show sim uses never reach diff import explain'
 
-complete -c ladder -n '__ladder_at check,causes,show,sim,uses,never,reach,import more 0' -l why -d 'Faults are explained'
-complete -c ladder -n '__ladder_at check,causes,show,sim,uses,never more 0' -l aliases -d 'Aliases in place of names'
+complete -c ladder -n '__ladder_at check,causes,show,sim,uses,never,reach,diff,import more 0' -l why -d 'Faults are explained'
+complete -c ladder -n '__ladder_at check,causes,show,sim,uses,never,diff more 0' -l aliases -d 'Aliases in place of names'
 complete -c ladder -n '__ladder_at check more 0' -l warn -d 'What is most likely not meant'
 complete -c ladder -n '__ladder_at causes,show more 0' -l all-inputs -d 'All inputs, in order of declaration'
 complete -c ladder -n '__ladder_at causes more 0' -l all-coils -x -a '(__fish_complete_directories)' -d 'Each coil, a file for each in this folder'
 complete -c ladder -n '__ladder_at causes more 0' -l progress -d 'Tell how far the list is, about once a second'
-complete -c ladder -n '__ladder_at causes,never more 0' -l quiet -d 'No line of counts'
+complete -c ladder -n '__ladder_at causes,never,diff more 0' -l quiet -d 'No line of counts'
 complete -c ladder -n '__ladder_at never more 0' -l off -d 'What can never go OFF'
 complete -c ladder -n '__ladder_at never more 0' -l pairs -d 'Pairs that are never both ON'
 complete -c ladder -n '__ladder_at causes,show,sim,never,reach more 0' -l state -r -F -d 'The state to begin in'
@@ -93,6 +94,16 @@ complete -c ladder -n '__ladder_at reach more 0' -l states -x -d 'At most so man
 complete -c ladder -n '__ladder_at reach more 0' -l both -x -a '(__ladder_targets)' -d 'This one ON after the same scan'
 complete -c ladder -n '__ladder_at reach more 0' -l gap -x -d 'How far apart the scans are where they can be, in ms'
 complete -c ladder -n '__ladder_at reach more 0' -l progress -d 'Tell how far the search is, about once a second'
+complete -c ladder -n '__ladder_at diff more 0' -l state -r -F -d 'The state of the old program to begin in'
+complete -c ladder -n '__ladder_at diff more 0' -l new-state -r -F -d 'The state of the new program'
+complete -c ladder -n '__ladder_at diff more 0' -l at -x -d 'The moment of the scan in ms'
+complete -c ladder -n '__ladder_at diff more 0' -l after -x -d 'Rows with a greater number only'
+complete -c ladder -n '__ladder_at diff more 0' -l upto -x -d 'Rows up to this number only'
+complete -c ladder -n '__ladder_at diff more 0' -l limit -x -d 'At most so many rows'
+complete -c ladder -n '__ladder_at diff more 0' -l grouped -d 'The combinations in groups'
+complete -c ladder -n '__ladder_at diff more 0' -l terms -d 'Groups as terms'
+complete -c ladder -n '__ladder_at diff more 0' -l st -d 'Groups as two statements in Structured Text'
+complete -c ladder -n '__ladder_at diff more 0' -l all-inputs -d 'All inputs that both have'
 complete -c ladder -n '__ladder_at import more 0' -l open -d 'Compares and steps have any value'
 complete -c ladder -n '__ladder_at import more 0' -l control -x -a on -d 'The control input of timers that have none'
 complete -c ladder -n '__ladder_at import more 0' -l hal -r -F -d 'A HAL file with names'
@@ -125,12 +136,14 @@ complete -c ladder -n '__ladder_at sim more 0' -l watch-all -d 'All memory varia
 complete -c ladder -n '__ladder_at sim more 0' -l vcd -d 'A waveform in place of the trace'
 complete -c ladder -n '__ladder_at sim more 0' -l save -r -F -d 'The file that gets the state after the last scan'
 
-complete -c ladder -n '__ladder_at check,causes,show,sim,uses,never,reach,import 1' -F
-complete -c ladder -n '__ladder_at sim 2' -F
+complete -c ladder -n '__ladder_at check,causes,show,sim,uses,never,reach,diff,import 1' -F
+complete -c ladder -n '__ladder_at sim,diff 2' -F
 complete -c ladder -n '__ladder_at explain more 0' -a '(__ladder_codes)'
 complete -c ladder -n '__ladder_at causes 2; and not __ladder_each' -a '(__ladder_coils)'
 complete -c ladder -n '__ladder_at causes 2; and __ladder_each' -a '(__ladder_inputs)'
 complete -c ladder -n '__ladder_at causes more 2' -a '(__ladder_inputs)'
+complete -c ladder -n '__ladder_at diff 3' -a '(__ladder_coils)'
+complete -c ladder -n '__ladder_at diff more 3' -a '(__ladder_inputs)'
 complete -c ladder -n '__ladder_at reach 2' -a '(__ladder_targets)'
 complete -c ladder -n '__ladder_at reach more 2' -a '(__ladder_inputs)'
 complete -c ladder -n '__ladder_at show more 1' -a '(__ladder_inputs)'
