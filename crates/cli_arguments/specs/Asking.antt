@@ -29,7 +29,8 @@ use Rattle.cli_arguments.specs.declared.request.Request.TheVariants.{Causes, Che
 use Rattle.cli_arguments.specs.declared.request.RunsWanted.{RunsWanted}
 use Rattle.cli_arguments.specs.declared.request.SimRequest.{SimRequest}
 use Rattle.cli_arguments.specs.declared.request.Task.{Task}
-use Rattle.cli_arguments.specs.declared.request.Task.TheVariants.{Compare, Explain, Perform, PerformAll}
+use Rattle.cli_arguments.specs.declared.request.Task.TheVariants.{Compare, Explain, Judge, Perform, PerformAll}
+use Rattle.cli_arguments.specs.declared.request.VerdictRequest.{VerdictRequest}
 
 abbrev pub HasText : Text → List Row → List ℕ → Type 0
 HasText id rows text = first_of id rows ≡ Some text
@@ -347,7 +348,7 @@ HasDiffForm rows (diff.Groups g) = HasFlag (codes "grouped") rows
     × HasNumber (codes "after") rows None
     × HasNumber (codes "upto") rows None
 
--- what a comparison of two programs names
+-- what a comparison of what two programs do with a coil names
 abbrev pub NamesDiff : List Row → DiffRequest → Type 0
 NamesDiff rows r = HasOption (codes "state") rows (option_map string_bytes r.state)
     × HasOption (codes "new-state") rows (option_map string_bytes r.new_state)
@@ -359,6 +360,31 @@ NamesDiff rows r = HasOption (codes "state") rows (option_map string_bytes r.sta
     × HasText (codes "new") rows (string_bytes r.new)
     × HasText (codes "coil") rows (string_bytes r.coil)
     × HasInputs rows r.all_inputs (map string_bytes r.inputs.items)
+    × HasSwitch (codes "aliases") rows r.aliases
+    × HasSwitch (codes "why") rows r.why
+    × HasNumber (codes "looks") rows None
+
+-- Nothing is asked of one scan: no state, no moment, and no part or form of a list.
+abbrev pub NamesNoScan : List Row → Type 0
+NamesNoScan rows = HasOption (codes "state") rows None
+    × HasOption (codes "new-state") rows None
+    × HasNumber (codes "at") rows None
+    × HasNumber (codes "after") rows None
+    × HasNumber (codes "upto") rows None
+    × HasNumber (codes "limit") rows None
+    × (HasFlag (codes "grouped") rows → ⊥)
+
+-- what a comparison of two programs name by name names: no coil, no inputs
+abbrev pub NamesVerdicts : List Row → VerdictRequest → Type 0
+NamesVerdicts rows r = HasOption (codes "coil") rows None
+    × HasInputs rows false []
+    × NamesNoScan rows
+    × HasForm Table rows
+    × HasOrder Given rows
+    × HasNumber (codes "looks") rows r.looks
+    × HasSwitch (codes "quiet") rows r.quiet
+    × HasText (codes "old") rows (string_bytes r.old)
+    × HasText (codes "new") rows (string_bytes r.new)
     × HasSwitch (codes "aliases") rows r.aliases
     × HasSwitch (codes "why") rows r.why
 
@@ -379,6 +405,7 @@ abbrev pub HasTask : Text → List Row → Task → Type 0
 HasTask name rows (Perform line) = Says name rows line × HasOption (codes "all-coils") rows None
 HasTask name rows (PerformAll all) = Says name rows all.line × HasOption (codes "all-coils") rows (Some (string_bytes all.folder))
 HasTask name rows (Compare r) = (name ≡ codes "diff") × NamesDiff rows r
+HasTask name rows (Judge r) = (name ≡ codes "diff") × NamesVerdicts rows r
 HasTask name rows (Explain names) = (name ≡ codes "explain") × NamesCodes rows names.items
 
 -- the subcommand's name and values ask for nothing

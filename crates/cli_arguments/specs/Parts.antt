@@ -1,13 +1,14 @@
 -- What is read of the parts of a request.
 use Rattle.std.specs.Prelude.{false, List, Option, None, Some, map, codes, string_bytes, option_map, []}
 use Rattle.clap.specs.Words.{Row}
-use Rattle.cli_arguments.specs.Asking.{HasFlag, HasForm, HasInputs, HasLasting, HasNumber, HasOption, HasOrder, HasText, NamesDiff}
+use Rattle.cli_arguments.specs.Asking.{HasFlag, HasForm, HasInputs, HasLasting, HasNumber, HasOption, HasOrder, HasText, NamesDiff, NamesVerdicts}
 use Rattle.cli_arguments.specs.declared.comparing.Programs.{Programs}
 use Rattle.cli_arguments.specs.declared.lasting.Lasting.{Lasting}
 use Rattle.cli_arguments.specs.declared.parts.NamedScan.{NamedScan}
 use Rattle.cli_arguments.specs.declared.simulating.Played.{Played}
 use Rattle.cli_arguments.specs.declared.parts.Sources.{Sources}
 use Rattle.cli_arguments.specs.declared.request.DiffRequest.{DiffRequest}
+use Rattle.cli_arguments.specs.declared.request.VerdictRequest.{VerdictRequest}
 
 -- the state and the program text
 abbrev pub HasSources : List Row → Sources → Type 0
@@ -82,3 +83,6 @@ HasNoBounds rows = HasNumber (codes "after") rows None × HasNumber (codes "upto
 -- no comparison is named
 abbrev pub NamesNoDiff : List Row → Type 0
 NamesNoDiff rows = (r : DiffRequest) → NamesDiff rows r → ⊥
+
+abbrev pub NamesNoVerdicts : List Row → Type 0
+NamesNoVerdicts rows = (r : VerdictRequest) → NamesVerdicts rows r → ⊥

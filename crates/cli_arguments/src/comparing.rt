@@ -2,14 +2,15 @@
 
 ghost use Rattle.std.specs.Prelude.{◌≡◌, true, false, codes, IfOk, IfErr, None, Some};
 ghost use Rattle.clap.specs.Words.{found_of, rows_of};
-ghost use Rattle.cli_arguments.specs.Asking.{HasDiffForm, HasFlag, HasNoTask, HasTask, NamesDiff};
-ghost use Rattle.cli_arguments.specs.Parts.{HasNoBounds, HasPrograms, NamesNoDiff};
+ghost use Rattle.cli_arguments.specs.Asking.{HasDiffForm, HasFlag, HasNoTask, HasNumber, HasOption, HasTask, NamesDiff, NamesNoScan, NamesVerdicts};
+ghost use Rattle.cli_arguments.specs.Parts.{HasNoBounds, HasPrograms, NamesNoDiff, NamesNoVerdicts};
 ghost use Rattle.cli_arguments.specs.Faults.{UsageWhere};
 
 use crate::found::{is_given, is_set, number, optional, text};
 use crate::grouping::{grouping_of, refuse_grouping};
 use crate::parts::{InputNames, inputs_of};
-use crate::request::{DiffForm, DiffRequest, Task, WordFault};
+use crate::request::{DiffForm, DiffRequest, Task, VerdictRequest, WordFault};
+use crate::showing::lists_inputs;
 use clap::ArgMatches;
 use std::alloc::Global;
 
@@ -76,6 +77,7 @@ fn diff_groups_of(found: &ArgMatches<'_>) -> Result<DiffForm, WordFault>
 
 /// What is compared of two programs.
 fn diff_request(alloc: Global, found: &ArgMatches<'_>) -> Result<DiffRequest, WordFault>
+    requires { HasNumber (codes "looks") (rows_of (found_of found.now)) None }
     ensures ok { IfOk result (NamesDiff (rows_of (found_of found.now))) }
     ensures err { IfErr result (UsageWhere (NamesNoDiff (rows_of (found_of found.now)))) }
 {
@@ -107,13 +109,80 @@ fn diff_request(alloc: Global, found: &ArgMatches<'_>) -> Result<DiffRequest, Wo
     })
 }
 
-/// The task of `diff`: to compare two programs.
+/// Whether one scan is asked of, or a part or a form of a list.
+fn names_scan(found: &ArgMatches<'_>) -> bool
+    ensures none { result ≡ false → NamesNoScan (rows_of (found_of found.now)) }
+    ensures some { result ≡ true → NamesNoScan (rows_of (found_of found.now)) → ⊥ }
+{
+    is_given(found, "state")
+        || is_given(found, "new-state")
+        || is_given(found, "at")
+        || is_given(found, "after")
+        || is_given(found, "upto")
+        || is_given(found, "limit")
+        || is_set(found, "grouped")
+}
+
+/// What is judged of two programs, name by name.
+fn verdict_request(alloc: Global, found: &ArgMatches<'_>) -> Result<VerdictRequest, WordFault>
+    requires { HasOption (codes "coil") (rows_of (found_of found.now)) None }
+    ensures ok { IfOk result (NamesVerdicts (rows_of (found_of found.now))) }
+    ensures err { IfErr result (UsageWhere (NamesNoVerdicts (rows_of (found_of found.now)))) }
+{
+    // It is judged from all states, and all names are.
+    if lists_inputs(found) || names_scan(found) {
+        return Err(WordFault::Usage);
+    }
+    refuse_grouping(found)?;
+    let looks = number(found, "looks")?;
+    let old = text(alloc, found, "old")?;
+    let new = text(alloc, found, "new")?;
+    Ok(VerdictRequest {
+        looks,
+        quiet: is_set(found, "quiet"),
+        old,
+        new,
+        aliases: is_set(found, "aliases"),
+        why: is_set(found, "why"),
+    })
+}
+
+/// The task of `diff` without a coil.
+fn verdict_task(alloc: Global, found: &ArgMatches<'_>) -> Result<Task, WordFault>
+    requires { HasOption (codes "coil") (rows_of (found_of found.now)) None }
+    ensures ok { IfOk result (HasTask (codes "diff") (rows_of (found_of found.now))) }
+    ensures err { IfErr result (UsageWhere (HasNoTask (codes "diff") (rows_of (found_of found.now)))) }
+{
+    match verdict_request(alloc, found) {
+        Ok(request) => Ok(Task::Judge(request)),
+        Err(fault) => Err(fault),
+    }
+}
+
+/// The task of `diff` with a coil.
+fn coil_task(alloc: Global, found: &ArgMatches<'_>) -> Result<Task, WordFault>
+    requires { HasOption (codes "coil") (rows_of (found_of found.now)) None → ⊥ }
+    ensures ok { IfOk result (HasTask (codes "diff") (rows_of (found_of found.now))) }
+    ensures err { IfErr result (UsageWhere (HasNoTask (codes "diff") (rows_of (found_of found.now)))) }
+{
+    // A list is complete, however many scans it takes.
+    if is_given(found, "looks") {
+        return Err(WordFault::Usage);
+    }
+    match diff_request(alloc, found) {
+        Ok(request) => Ok(Task::Compare(request)),
+        Err(fault) => Err(fault),
+    }
+}
+
+/// The task of `diff`: to compare what two programs do with a coil, or with each name.
 pub(crate) fn diff_task(alloc: Global, found: &ArgMatches<'_>) -> Result<Task, WordFault>
     ensures ok { IfOk result (HasTask (codes "diff") (rows_of (found_of found.now))) }
     ensures err { IfErr result (UsageWhere (HasNoTask (codes "diff") (rows_of (found_of found.now)))) }
 {
-    match diff_request(alloc, found) {
-        Ok(request) => Ok(Task::Compare(request)),
-        Err(fault) => Err(fault),
+    if is_given(found, "coil") {
+        coil_task(alloc, found)
+    } else {
+        verdict_task(alloc, found)
     }
 }

@@ -17,6 +17,7 @@ mod words;
 pub use request::{
     AllCoils, CommandLine, DiffForm, DiffRequest, Excluded, FilmRequest, GroupFormat, Grouping,
     InputOrder, ListRequest, Medium, NeverRequest, Pace, PossibleRequest, ReachRequest, Request,
-    RunsWanted, ShowRequest, SimRequest, Task, WatchRequest, WavesRequest, WordFault,
+    RunsWanted, ShowRequest, SimRequest, Task, VerdictRequest, WatchRequest, WavesRequest,
+    WordFault,
 };
 pub use words::read_words;

@@ -284,6 +284,23 @@ pub struct DiffRequest {
     pub why: bool,
 }
 
+/// What a request names for what two programs do differently, name by name.
+#[derive(Drop)]
+pub struct VerdictRequest {
+    /// How many scans of each program a verdict takes at most, where it is said.
+    pub looks: Option<u64>,
+    /// Whether the line of counts is left out.
+    pub quiet: bool,
+    /// The file of the program text before the change.
+    pub old: String,
+    /// The file of the program text after it.
+    pub new: String,
+    /// Whether aliases are printed in place of names.
+    pub aliases: bool,
+    /// Whether a fault is explained, after its line.
+    pub why: bool,
+}
+
 /// What the arguments ask for.
 #[derive(Drop)]
 pub enum Request {
@@ -375,8 +392,10 @@ pub enum Task {
     Perform(CommandLine),
     /// To perform a request for each coil of its program.
     PerformAll(AllCoils),
-    /// To compare two programs.
+    /// To compare what two programs do with a coil.
     Compare(DiffRequest),
+    /// To judge of each name whether two programs leave it alike.
+    Judge(VerdictRequest),
     /// To say what the faults with these codes mean, or to list all faults where none is named.
     Explain(Vec<String>),
 }

@@ -1,11 +1,15 @@
 -- How a comparison ends, from what each step of it ensures.
-use Rattle.std.proofs.Common.{◌⊎◌, refl, subst, Err, inl, inr}
+use Rattle.std.proofs.Common.{◌⊎◌, refl, subst, Err, None, Ok, Option, Some, inl, inr}
 use Rattle.causes_query.specs.Causes.{Question}
-use Rattle.io_text.specs.Log.{WriteLog}
+use Rattle.io_text.specs.Log.{PutsPrefix, WriteLog}
 use Rattle.search_differences.specs.declared.side.Side.{Side}
+use Rattle.search_differences.specs.declared.side.Side.TheVariants.{Old, New}
 use Rattle.cli_arguments.specs.declared.request.DiffRequest.{DiffRequest}
 use Rattle.cli_inputs.specs.Reports.{IsReportedBy, logs}
 use Rattle.cli_inputs.specs.Setting.{Given}
+use Rattle.cli_inputs.specs.declared.fault.ToolFault.{ToolFault}
+use Rattle.cli_questions.specs.Ending.{counts_line, unless_quiet}
+use Rattle.cli_questions.specs.declared.counting.ListCounts.{ListCounts}
 use Rattle.cli_diff.specs.Asking.{AreAsked}
 use Rattle.cli_diff.specs.Ending.{BreaksDiff, RefusesOf, WritesOf}
 use Rattle.cli_diff.specs.Faults.{HasDiffFault, IsRefusedOf, given_of}
@@ -21,3 +25,14 @@ module _ (g h : Given) (r : DiffRequest) (old new : Question) (asked : AreAsked 
       inl (record { side = e.side; reason = e.fault; has = inr (old, new, asked, w.0); unwritten = w.1; unsaved = refl {a = save}; reported = said })
   broken e save o o' s s' (inr w) said =
       inr (inl (w.1.0, (old, new, asked, w.1.1), w.1.2, subst (λ (f : SidedFault). IsReportedBy f.side (given_of f.side g h) s s' f.fault) w.0 said))
+
+  -- A list that was written, the line of whose counts broke off.
+  pub uncounted : (n : ListCounts) (save o o' s s' : WriteLog) → WritesOf (DiffList r.form r.limit old new) (IsRefusedOf r.form old new) o o' (Ok n)
+      → PutsPrefix s s' (unless_quiet r.quiet (counts_line n)) → RefusesOf g h (HasDiffFault g h r) (logs o save s) (logs o' save s') ⊎ BreaksDiff g h r (logs o save s) (logs o' save s')
+  uncounted n save o o' s s' w put = inr (inr (record { text = w.0; counts = n; is = (old, new, asked, w.1); put = w.2; counted = put }))
+
+-- What is said of a fault is of the one program's texts, where both are the same.
+pub same_texts : (side : Option Side) (g : Given) (s s' : WriteLog) (f : ToolFault) → IsReportedBy side g s s' f → IsReportedBy side (given_of side g g) s s' f
+same_texts None g s s' f said = said
+same_texts (Some Old) g s s' f said = said
+same_texts (Some New) g s s' f said = said

@@ -49,7 +49,9 @@ fn carried(alloc: Global, old: &Setting, new: &Program) -> Result<State, ToolFau
     let Ok(matching) = Matching::by_names(alloc, &old.program, new) else {
         return Err(ToolFault::Memory);
     };
-    match carry(alloc, &matching, new, &old.state) {
+    let state = carry(alloc, &matching, new, &old.state);
+    drop(matching);
+    match state {
         Ok(state) => Ok(state),
         Err(_) => Err(ToolFault::Memory),
     }
@@ -86,11 +88,18 @@ fn read_settings(alloc: Global, texts: &DiffTexts) -> Result<Settings, SidedFaul
     };
     let new_program = match read_given_program(alloc, &texts.new) {
         Ok(program) => program,
-        Err(fault) => return Err(of(Side::New, fault)),
+        Err(fault) => {
+            drop(program);
+            return Err(of(Side::New, fault));
+        }
     };
     let state = match starting_state(alloc, &program, &texts.old.state) {
         Ok(state) => state,
-        Err(fault) => return Err(of(Side::Old, fault)),
+        Err(fault) => {
+            drop(new_program);
+            drop(program);
+            return Err(of(Side::Old, fault));
+        }
     };
     let old = Setting { program, state };
     match new_state(alloc, &old, &new_program, texts) {
@@ -101,7 +110,11 @@ fn read_settings(alloc: Global, texts: &DiffTexts) -> Result<Settings, SidedFaul
                 state,
             },
         }),
-        Err(fault) => Err(of(Side::New, fault)),
+        Err(fault) => {
+            drop(new_program);
+            drop(old);
+            Err(of(Side::New, fault))
+        }
     }
 }
 
@@ -145,9 +158,19 @@ fn common_inputs(alloc: Global, old: &Program, new: &Program) -> Result<InputNum
     let Ok(matching) = Matching::by_names(alloc, old, new) else {
         return Err(ToolFault::Memory);
     };
-    let old = numbers_in(alloc, Side::Old, matching.inputs())?;
-    let new = numbers_in(alloc, Side::New, matching.inputs())?;
-    Ok(InputNumbers { old, new })
+    let old = match numbers_in(alloc, Side::Old, matching.inputs()) {
+        Ok(numbers) => numbers,
+        Err(fault) => {
+            drop(matching);
+            return Err(fault);
+        }
+    };
+    let new = numbers_in(alloc, Side::New, matching.inputs());
+    drop(matching);
+    match new {
+        Ok(new) => Ok(InputNumbers { old, new }),
+        Err(fault) => Err(fault),
+    }
 }
 
 /// The coil and the inputs of a request in one of the programs.
@@ -195,6 +218,8 @@ fn read_variables(
     };
     let (old_coil, new_coil) = (old_named.coil, new_named.coil);
     if request.all_inputs {
+        drop(new_named);
+        drop(old_named);
         return match common_inputs(alloc, old, new) {
             Ok(inputs) => Ok(BothVariables {
                 old_coil,
@@ -266,6 +291,10 @@ pub fn read_query(
                 new: query_of(new, request.moment, new_coil, inputs.new),
             })
         }
-        Err(fault) => Err(fault),
+        Err(fault) => {
+            drop(new);
+            drop(old);
+            Err(fault)
+        }
     }
 }

@@ -26,31 +26,42 @@ pub struct DiffReaders<R: Source> {
     pub new_state: Option<R>,
 }
 
+/// How texts are spoken of: whether a fault is explained, and whether aliases are printed in place of names.
+#[derive(Clone, Copy)]
+pub struct Manner {
+    pub why: bool,
+    pub aliases: bool,
+}
+
 /// The texts of one program.
-fn texts_of(program: Vec<u8>, state: Option<Vec<u8>>, request: &DiffRequest) -> Texts
+fn texts_of(program: Vec<u8>, state: Option<Vec<u8>>, manner: Manner) -> Texts
     ensures program { (given_by result).program ≡ program.items }
     ensures state { (given_by result).state ≡ option_map vec_items state }
-    ensures why { result.why ≡ request.now.why }
-    ensures aliases { result.aliases ≡ request.now.aliases }
+    ensures why { result.why ≡ manner.why }
+    ensures aliases { result.aliases ≡ manner.aliases }
 {
     Texts {
         program,
         state,
         stimulus: None,
         hal: None,
-        why: request.why,
-        aliases: request.aliases,
+        why: manner.why,
+        aliases: manner.aliases,
     }
 }
 
 /// Reads the texts of a comparison, up to the first that can't be read: the old program, the new one, and their states in this order.
-fn read_texts<R: Source>(
+///
+/// # Errors
+///
+/// The fault of the first that can't be read, and of which program it is.
+pub fn read_texts<R: Source>(
     alloc: Global,
-    request: &DiffRequest,
+    manner: Manner,
     readers: &mut DiffReaders<R>,
 ) -> Result<DiffTexts, SidedFault>
-    ensures why { IfOk result (λ t. (t.old.why ≡ request.now.why) × (t.new.why ≡ request.now.why)) }
-    ensures aliases { IfOk result (λ t. (t.old.aliases ≡ request.now.aliases) × (t.new.aliases ≡ request.now.aliases)) }
+    ensures why { IfOk result (λ t. (t.old.why ≡ manner.why) × (t.new.why ≡ manner.why)) }
+    ensures aliases { IfOk result (λ t. (t.old.aliases ≡ manner.aliases) × (t.new.aliases ≡ manner.aliases)) }
     ensures read { IfOk result (λ t. AreBothRead (diff_files (R.log readers.old.old_program) (R.log readers.old.new_program) (option_map R.log readers.old.old_state) (option_map R.log readers.old.new_state)) (given_by t.old) (given_by t.new)) }
     ensures fault { IfErr result (λ e. StopsAtOne (diff_files (R.log readers.old.old_program) (R.log readers.old.new_program) (option_map R.log readers.old.old_state) (option_map R.log readers.old.new_state))
         (diff_files (R.log readers.new.old_program) (R.log readers.new.new_program) (option_map R.log readers.new.old_state) (option_map R.log readers.new.new_state)) e.side e.fault) }
@@ -69,8 +80,8 @@ fn read_texts<R: Source>(
     };
     match read_named(alloc, TextKind::State, &mut readers.new_state) {
         Ok(new_state) => Ok(DiffTexts {
-            old: texts_of(old, state, request),
-            new: texts_of(new, new_state, request),
+            old: texts_of(old, state, manner),
+            new: texts_of(new, new_state, manner),
         }),
         Err(fault) => Err(of(Side::New, fault)),
     }
@@ -98,8 +109,16 @@ pub fn compare_files<R: Source, O: Sink, E: Sink>(
         × (RefusesOf g h (HasDiffFault g h request.now) (logs (O.log out.old) save (E.log err.old)) (logs (O.log out.new) save (E.log err.new))
         ⊎ BreaksDiff g h request.now (logs (O.log out.old) save (E.log err.old)) (logs (O.log out.new) save (E.log err.new)))) }
 {
-    match read_texts(alloc, request, readers) {
-        Ok(texts) => compare(alloc, request, &texts, out, err),
+    let manner = Manner {
+        why: request.why,
+        aliases: request.aliases,
+    };
+    match read_texts(alloc, manner, readers) {
+        Ok(texts) => {
+            let status = compare(alloc, request, &texts, out, err);
+            drop(texts);
+            status
+        }
         Err(fault) => report_unread_by(fault.side, request.why, &fault.fault, err),
     }
 }

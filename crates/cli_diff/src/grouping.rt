@@ -65,7 +65,10 @@ pub(crate) fn write_groups<O: Sink>(
     };
     let mut new = match groups_of(alloc, Sought::NewAlone, asked) {
         Ok(groups) => groups,
-        Err(fault) => return Err(fault),
+        Err(fault) => {
+            drop(old);
+            return Err(fault);
+        }
     };
     let form = form_of(grouping.form, asked.old.coil);
     let written = write_difference_groups(&mut old, &mut new, form, limit, out);

@@ -11,6 +11,6 @@ mod texts;
 
 pub use asking::{DiffQuery, read_query};
 pub use comparing::compare;
-pub use files::{DiffReaders, compare_files};
-pub use sided::SidedFault;
+pub use files::{DiffReaders, Manner, compare_files, read_texts};
+pub use sided::{SidedFault, of, report};
 pub use texts::DiffTexts;

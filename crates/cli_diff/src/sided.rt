@@ -19,7 +19,7 @@ pub struct SidedFault {
 }
 
 /// A fault of one of the programs.
-pub(crate) fn of(side: Side, fault: ToolFault) -> SidedFault
+pub fn of(side: Side, fault: ToolFault) -> SidedFault
     ensures { result ≡ record { side = Some side; fault = fault } }
 {
     SidedFault {
@@ -29,7 +29,7 @@ pub(crate) fn of(side: Side, fault: ToolFault) -> SidedFault
 }
 
 /// Writes the line of a fault, with its program, and what explains it where that is asked for. Returns the status 1.
-pub(crate) fn report<E: Sink>(texts: &DiffTexts, fault: SidedFault, err: &mut E) -> u8
+pub fn report<E: Sink>(texts: &DiffTexts, fault: SidedFault, err: &mut E) -> u8
     ensures status { result ≡ 1 }
     ensures line { IsReportedBy fault.side (given_of fault.side (given_by texts.now.old) (given_by texts.now.new)) (E.log err.old) (E.log err.new) fault.fault }
 {

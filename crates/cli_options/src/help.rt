@@ -70,7 +70,7 @@ pub(crate) const REACH_INPUTS_HELP: &str =
     "Inputs that change; the others keep what the state stores. Without one all inputs change";
 
 pub(crate) const DIFF_ABOUT: &str =
-    "Lists the combinations of inputs with which two programs leave a coil different";
+    "Says what a change of a program changes: of each name, or with which combinations of inputs a coil is left different";
 
 pub(crate) const OLD_HELP: &str = "The program text before the change";
 
@@ -91,7 +91,10 @@ pub(crate) const DIFF_AFTER_HELP: &str =
 pub(crate) const DIFF_UPTO_HELP: &str = "Ends the list at the number N; not with --grouped";
 
 pub(crate) const DIFF_COIL_HELP: &str =
-    "A variable that a coil of both programs writes, in any letter case";
+    "A variable that a coil of both programs writes, in any letter case; without it each variable and block is judged, from all states";
+
+pub(crate) const DIFF_LOOKS_HELP: &str =
+    "Without a COIL: how many scans of each program a verdict takes at most; without it 10000";
 
 pub(crate) const DIFF_INPUTS_HELP: &str =
     "Inputs of both programs to list, at most 32; the others keep what the state of each stores";

@@ -4,6 +4,7 @@ ghost use Rattle.std.specs.Prelude.{◌≡◌, IfOk, map, string_bytes};
 ghost use Rattle.causes_query.specs.Causes.{question};
 ghost use Rattle.causes_query.specs.Refusal.{refusal};
 ghost use Rattle.cli_inputs.specs.Setting.{given_by};
+ghost use Rattle.cli_perform.specs.CoilNames.{coil_names};
 ghost use Rattle.cli_perform.specs.Coils.{HasCoils};
 
 use crate::coils::coil_names;
@@ -33,15 +34,27 @@ pub(crate) fn read_coils(
         Ok(setting) => setting,
         Err(fault) => return Err(fault),
     };
+    let coils = coils_for(alloc, request, &setting);
+    drop(setting);
+    coils
+}
+
+/// The names of the coils of a program, where the request can be made of them.
+fn coils_for(alloc: Global, request: &Request, setting: &Setting) -> Result<Vec<String>, ToolFault>
+    ensures { IfOk result (λ names. map string_bytes names.items ≡ coil_names setting.now.program) }
+{
     let Ok(names) = coil_names(alloc, &setting.program) else {
         return Err(ToolFault::Memory);
     };
     let [first, ..] = names.as_slice() else {
         return Ok(names);
     };
-    match check_for(alloc, request, &setting, first) {
+    match check_for(alloc, request, setting, first) {
         Ok(()) => Ok(names),
-        Err(fault) => Err(fault),
+        Err(fault) => {
+            drop(names);
+            Err(fault)
+        }
     }
 }
 

@@ -34,9 +34,30 @@ pub(crate) fn read_texts<R: Source>(
     ensures fault { IfErr result (StopsAt (files (R.log readers.old.program) (option_map R.log readers.old.state) (option_map R.log readers.old.stimulus) (option_map R.log readers.old.hal)) (files (R.log readers.new.program) (option_map R.log readers.new.state) (option_map R.log readers.new.stimulus) (option_map R.log readers.new.hal))) }
 {
     let program = read_one(alloc, TextKind::Program, &mut readers.program)?;
-    let state = read_named(alloc, TextKind::State, &mut readers.state)?;
-    let stimulus = read_named(alloc, TextKind::Stimulus, &mut readers.stimulus)?;
-    let hal = read_named(alloc, TextKind::Hal, &mut readers.hal)?;
+    let state = match read_named(alloc, TextKind::State, &mut readers.state) {
+        Ok(text) => text,
+        Err(fault) => {
+            drop(program);
+            return Err(fault);
+        }
+    };
+    let stimulus = match read_named(alloc, TextKind::Stimulus, &mut readers.stimulus) {
+        Ok(text) => text,
+        Err(fault) => {
+            drop(state);
+            drop(program);
+            return Err(fault);
+        }
+    };
+    let hal = match read_named(alloc, TextKind::Hal, &mut readers.hal) {
+        Ok(text) => text,
+        Err(fault) => {
+            drop(stimulus);
+            drop(state);
+            drop(program);
+            return Err(fault);
+        }
+    };
     Ok(Texts {
         program,
         state,
@@ -67,7 +88,11 @@ pub fn perform_files<R: Source, O: Sink, S: Sink, E: Sink>(
         × IsFailed line.now.request g (logs (O.log out.old) (S.log save.old) (E.log err.old)) (logs (O.log out.new) (S.log save.new) (E.log err.new))) }
 {
     match read_texts(alloc, line, readers) {
-        Ok(texts) => perform(alloc, &line.request, &texts, out, save, err),
+        Ok(texts) => {
+            let status = perform(alloc, &line.request, &texts, out, save, err);
+            drop(texts);
+            status
+        }
         Err(fault) => report_unread(line.why, &fault, err),
     }
 }

@@ -7,36 +7,12 @@ use crate::coil::perform_coil;
 use crate::files::read_texts;
 use crate::opening::readers_of;
 use crate::saving::followed;
+use crate::stream::Stream;
 use cli_arguments::{AllCoils, CommandLine, GroupFormat, Request, RunsWanted};
 use cli_inputs::{Texts, ToolFault, report, report_unread};
 use io_text::CountedWriter;
 use std::alloc::{AllocError, Global};
-use std::fs::{self, File};
-use std::io::{self, Write};
-
-/// The file of a coil, which is made anew and empty. One that can't be made is a failed write.
-#[derive(Drop)]
-struct CoilFile {
-    file: io::Result<File>,
-}
-
-impl Write for CoilFile {
-    /// Writes to the file; if it couldn't be made, the error of that is the error of each write.
-    fn write(&mut self, bytes: &[u8]) -> io::Result<usize> {
-        match &mut self.file {
-            Ok(file) => file.write(bytes),
-            Err(error) => Err(io::Error::from(error.kind())),
-        }
-    }
-
-    /// Flushes the file; if it couldn't be made, the error of that is the error of each call.
-    fn flush(&mut self) -> io::Result<()> {
-        match &mut self.file {
-            Ok(file) => file.flush(),
-            Err(error) => Err(io::Error::from(error.kind())),
-        }
-    }
-}
+use std::{fs, io};
 
 /// The form in which a list is written, which gives its file its ending.
 fn form_of(request: &Request) -> GroupFormat {
@@ -71,15 +47,6 @@ fn ending(form: GroupFormat) -> &'static str {
         GroupFormat::Terms => ".txt",
         GroupFormat::Statement => ".st",
     }
-}
-
-/// The path of a coil's file in the folder: the name of the coil with an ending.
-fn path_of(alloc: Global, folder: &str, coil: &str, end: &str) -> Result<String, AllocError> {
-    let mut path = String::from_str(alloc, folder)?;
-    path.push_str("/")?;
-    path.push_str(coil)?;
-    path.push_str(end)?;
-    Ok(path)
 }
 
 /// The path of the state that a request reads, where there is one.
@@ -204,16 +171,33 @@ impl Lists<'_> {
     fn list(&self, request: &mut Request, coil: String) -> u8
         ensures { result ≤ 1 }
     {
-        let Ok(path) = self.path(coil.as_str(), form_of(request)) else {
-            return self.refuse(&ToolFault::Memory);
-        };
-        let file = fs::create(self.rt, path.as_str());
-        let mut out = CountedWriter::new(CoilFile { file });
-        let mut save = CountedWriter::new(io::sink());
+        let path = self.path(coil.as_str(), form_of(request));
+        match path {
+            Ok(path) => {
+                let file = fs::create(self.rt, path.as_str());
+                drop(path);
+                self.list_into(request, coil, Stream::Coil(file))
+            }
+            Err(_) => {
+                drop(coil);
+                self.refuse(&ToolFault::Memory)
+            }
+        }
+    }
+
+    /// Writes the list of one coil into this file. Returns the status.
+    fn list_into(&self, request: &mut Request, coil: String, file: Stream<'_>) -> u8
+        ensures { result ≤ 1 }
+    {
+        let mut out = CountedWriter::new(file);
+        let mut save = CountedWriter::new(Stream::Nothing);
         let mut err = CountedWriter::new(self.rt.stderr());
-        perform_coil(
+        let status = perform_coil(
             self.alloc, request, coil, self.texts, &mut out, &mut save, &mut err,
-        )
+        );
+        drop(save);
+        drop(out);
+        status
     }
 
     /// Writes the list of each coil into its file, one after the other. Returns the largest status.
@@ -229,11 +213,11 @@ impl Lists<'_> {
         if are_made { 0 } else { 1 }
     }
 
-    /// Writes the lists of these coils, unless one would replace a file that is read. Returns the status.
-    fn make(&self, request: &mut Request, coils: Vec<String>) -> u8
+    /// Makes the folder for the lists of these coils, unless one would replace a file that is read. Returns the status.
+    fn prepare(&self, request: &Request, coils: &[String]) -> u8
         ensures { result ≤ 2 }
     {
-        match self.are_taken(request, &coils) {
+        match self.are_taken(request, coils) {
             Ok(false) => (),
             Ok(true) => {
                 self.refuse(&ToolFault::Usage);
@@ -244,36 +228,65 @@ impl Lists<'_> {
         if self.make_folder().is_err() {
             return self.refuse(&ToolFault::Write);
         }
-        self.list_all(request, coils)
+        0
+    }
+
+    /// Writes the lists of these coils, unless one would replace a file that is read. Returns the status.
+    fn make(&self, request: &mut Request, coils: Vec<String>) -> u8
+        ensures { result ≤ 2 }
+    {
+        let status = self.prepare(request, &coils);
+        if status == 0 {
+            return self.list_all(request, coils);
+        }
+        drop(coils);
+        status
     }
 }
 
 /// Reads the texts of a request once, for the lists of all coils.
 fn texts_of(rt: &HostRuntime, alloc: Global, line: &CommandLine) -> Result<Texts, ToolFault> {
     let mut readers = readers_of(rt, &line.request);
-    read_texts(alloc, line, &mut readers)
+    let texts = read_texts(alloc, line, &mut readers);
+    drop(readers);
+    texts
+}
+
+/// Performs a request of these texts for each coil of its program. Returns the status.
+fn list_coils(rt: &HostRuntime, alloc: Global, all: &mut AllCoils, texts: &Texts) -> u8
+    ensures { result ≤ 2 }
+{
+    let lists = Lists {
+        rt,
+        alloc,
+        folder: all.folder.as_str(),
+        texts,
+    };
+    match read_coils(alloc, &all.line.request, texts) {
+        Ok(coils) => lists.make(&mut all.line.request, coils),
+        Err(fault) => {
+            let status = lists.refuse(&fault);
+            drop(fault);
+            status
+        }
+    }
 }
 
 /// Performs a request for each coil of its program. Returns the status, the largest of all: 0 done, 1 a fault, 2 wrong usage.
 pub(crate) fn run_coils(rt: &HostRuntime, alloc: Global, all: &mut AllCoils) -> u8
     ensures { result ≤ 2 }
 {
-    let texts = match texts_of(rt, alloc, &all.line) {
-        Ok(texts) => texts,
-        Err(fault) => return report_unread(
-            all.line.why,
-            &fault,
-            &mut CountedWriter::new(rt.stderr()),
-        ),
-    };
-    let lists = Lists {
-        rt,
-        alloc,
-        folder: all.folder.as_str(),
-        texts: &texts,
-    };
-    match read_coils(alloc, &all.line.request, &texts) {
-        Ok(coils) => lists.make(&mut all.line.request, coils),
-        Err(fault) => lists.refuse(&fault),
+    match texts_of(rt, alloc, &all.line) {
+        Ok(texts) => {
+            let status = list_coils(rt, alloc, all, &texts);
+            drop(texts);
+            status
+        }
+        Err(fault) => {
+            let mut err = CountedWriter::new(rt.stderr());
+            let status = report_unread(all.line.why, &fault, &mut err);
+            drop(fault);
+            status
+        }
     }
 }

@@ -11,6 +11,7 @@ mod performing;
 mod program;
 mod request;
 mod saving;
+mod stream;
 mod telling;
 
 pub use coil::perform_coil;

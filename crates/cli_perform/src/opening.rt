@@ -1,7 +1,7 @@
 //! The files that a request reads.
 
 use crate::files::Readers;
-use cli_arguments::{DiffRequest, Request};
+use cli_arguments::{DiffRequest, Request, VerdictRequest};
 use cli_diff::DiffReaders;
 use io_text::CountedReader;
 use std::fs::{self, File};
@@ -72,9 +72,12 @@ fn from_state<'a>(
     program: &'a str,
     state: &'a Option<String>,
 ) -> Readers<CountedReader<NamedFile<'a>>> {
-    let mut readers = alone(rt, program);
-    readers.state = reading_named(rt, state);
-    readers
+    Readers {
+        program: reading(rt, program),
+        state: reading_named(rt, state),
+        stimulus: None,
+        hal: None,
+    }
 }
 
 /// The readers of a simulation: a program text, a state if one is named, and a stimulus.
@@ -84,9 +87,26 @@ fn simulated<'a>(
     state: &'a Option<String>,
     stimulus: &'a str,
 ) -> Readers<CountedReader<NamedFile<'a>>> {
-    let mut readers = from_state(rt, program, state);
-    readers.stimulus = Some(reading(rt, stimulus));
-    readers
+    Readers {
+        program: reading(rt, program),
+        state: reading_named(rt, state),
+        stimulus: Some(reading(rt, stimulus)),
+        hal: None,
+    }
+}
+
+/// The readers of an import: a project, and a HAL file if one is named.
+fn imported<'a>(
+    rt: &'a HostRuntime,
+    project: &'a str,
+    hal: &'a Option<String>,
+) -> Readers<CountedReader<NamedFile<'a>>> {
+    Readers {
+        program: reading(rt, project),
+        state: None,
+        stimulus: None,
+        hal: reading_named(rt, hal),
+    }
 }
 
 /// The readers of the files that a request names, none of which was opened yet.
@@ -96,11 +116,7 @@ pub(crate) fn readers_of<'a>(
 ) -> Readers<CountedReader<NamedFile<'a>>> {
     match request {
         Request::Check { file, .. } | Request::Uses { file } => alone(rt, file.as_str()),
-        Request::Import { file, hal, .. } => {
-            let mut readers = alone(rt, file.as_str());
-            readers.hal = reading_named(rt, hal);
-            readers
-        }
+        Request::Import { file, hal, .. } => imported(rt, file.as_str(), hal),
         Request::Causes { list, .. }
         | Request::Progress { list, .. }
         | Request::Held { list, .. }
@@ -142,5 +158,18 @@ pub(crate) fn diff_readers_of<'a>(
         new_program: reading(rt, request.new.as_str()),
         old_state: reading_named(rt, &request.state),
         new_state: reading_named(rt, &request.new_state),
+    }
+}
+
+/// The readers of the files of two programs that are judged, none of which was opened yet.
+pub(crate) fn verdict_readers_of<'a>(
+    rt: &'a HostRuntime,
+    request: &'a VerdictRequest,
+) -> DiffReaders<CountedReader<NamedFile<'a>>> {
+    DiffReaders {
+        old_program: reading(rt, request.old.as_str()),
+        new_program: reading(rt, request.new.as_str()),
+        old_state: None,
+        new_state: None,
     }
 }

@@ -4,19 +4,21 @@ ghost use Rattle.std.specs.Prelude.{◌≤◌};
 
 use crate::files::perform_files;
 use crate::folder::run_coils;
-use crate::opening::{diff_readers_of, readers_of};
+use crate::opening::{diff_readers_of, readers_of, verdict_readers_of};
 use crate::saving::{SavedFile, followed};
+use crate::stream::Stream;
 use crate::telling::telling;
 use cli_arguments::{
-    AllCoils, CommandLine, DiffRequest, Request, SimRequest, Task, WordFault, read_words,
+    CommandLine, DiffRequest, Request, SimRequest, Task, VerdictRequest, WordFault, read_words,
 };
 use cli_diff::compare_files;
 use cli_inputs::{ToolFault, write_fault};
 use cli_options::{codes, page_of};
+use cli_verdicts::judge_files;
 use io_text::{CountedWriter, Sink, WriteFault, put};
 use std::alloc::{AllocError, Global};
 use std::fs::{self, File};
-use std::io::{self, IsTerminal, Write};
+use std::io::{self, IsTerminal};
 
 /// What is said of words that `clap` takes and that ask for nothing.
 const CLASH: &str =
@@ -31,19 +33,33 @@ pub fn run(rt: &HostRuntime, alloc: Global, words: Vec<String>) -> u8
     // Words that can't be taken don't say what the flag means, so it is looked for among them.
     let why = words.iter().any(|word| word.as_str() == "--why");
     match read_words(alloc, words) {
-        Ok(Task::Perform(line)) => run_line(rt, alloc, &seen_on(rt, line)),
-        Ok(Task::PerformAll(mut all)) => run_all(rt, alloc, &mut all),
-        Ok(Task::Compare(request)) => run_diff(rt, alloc, &request),
-        Ok(Task::Explain(names)) => explain(rt, &names),
-        Err(fault) => refuse(rt, why, &fault),
+        Ok(task) => {
+            let mut task = seen_on(rt, task);
+            let status = run_task(rt, alloc, &mut task);
+            drop(task);
+            status
+        }
+        Err(fault) => {
+            let status = refuse(rt, why, &fault);
+            drop(fault);
+            status
+        }
     }
 }
 
-/// The task of a request: a plain list reports how far it is, if that is seen on a terminal and its rows go elsewhere.
-fn seen_on(rt: &HostRuntime, line: CommandLine) -> CommandLine {
+/// A task: a plain list reports how far it is, if that is seen on a terminal and its rows go elsewhere.
+fn seen_on(rt: &HostRuntime, task: Task) -> Task {
     if rt.stdout().is_terminal() || !rt.stderr().is_terminal() {
-        return line;
+        return task;
     }
+    match task {
+        Task::Perform(line) => Task::Perform(told(line)),
+        other => other,
+    }
+}
+
+/// A command line whose list reports how far it is.
+fn told(line: CommandLine) -> CommandLine {
     let CommandLine {
         request,
         why,
@@ -55,6 +71,23 @@ fn seen_on(rt: &HostRuntime, line: CommandLine) -> CommandLine {
         why,
         aliases,
     }
+}
+
+/// Performs a task over its files and the standard streams.
+fn run_task(rt: &HostRuntime, alloc: Global, task: &mut Task) -> u8
+    ensures { result ≤ 2 }
+{
+    // A stream that is closed at the start must not become one of the files: these take its place, and refuse what is written.
+    let places = (no_file(rt), no_file(rt), no_file(rt));
+    let status = match task {
+        Task::Perform(line) => run_line(rt, alloc, line),
+        Task::PerformAll(all) => run_coils(rt, alloc, all),
+        Task::Compare(request) => run_diff(rt, alloc, request),
+        Task::Judge(request) => run_verdicts(rt, alloc, request),
+        Task::Explain(names) => explain(rt, names),
+    };
+    drop(places);
+    status
 }
 
 /// Shows the help that the arguments ask for, or reports why they ask for nothing. Returns the status.
@@ -93,7 +126,10 @@ fn explain(rt: &HostRuntime, names: &[String]) -> u8
     if names.is_empty() {
         return show(rt, codes());
     }
-    match write_pages(names, &mut CountedWriter::new(io::writer(rt))) {
+    let mut out = CountedWriter::new(Stream::Output(rt));
+    let written = write_pages(names, &mut out);
+    drop(out);
+    match written {
         Ok(()) => 0,
         Err(_) => {
             report(rt, &ToolFault::Write);
@@ -120,33 +156,41 @@ fn write_pages<W: Sink>(names: &[String], writer: &mut W) -> Result<(), WriteFau
 fn run_line(rt: &HostRuntime, alloc: Global, line: &CommandLine) -> u8
     ensures { result ≤ 2 }
 {
-    // A stream that is closed at the start must not become one of the files: these take its place, and refuse what is written.
-    let _places = (no_file(rt), no_file(rt), no_file(rt));
     match saving_of(&line.request) {
         Some((path, sim)) => run_saving(rt, alloc, line, sim, path),
-        None => run_with(rt, alloc, line, &mut CountedWriter::new(io::sink())),
+        None => {
+            let mut save = CountedWriter::new(Stream::Nothing);
+            let status = run_with(rt, alloc, line, &mut save);
+            drop(save);
+            status
+        }
     }
-}
-
-/// Performs a request for each coil of its program, over its files, a folder and standard error.
-fn run_all(rt: &HostRuntime, alloc: Global, all: &mut AllCoils) -> u8
-    ensures { result ≤ 2 }
-{
-    // As for one request.
-    let _places = (no_file(rt), no_file(rt), no_file(rt));
-    run_coils(rt, alloc, all)
 }
 
 /// Compares two programs over their files and the standard streams.
 fn run_diff(rt: &HostRuntime, alloc: Global, request: &DiffRequest) -> u8
     ensures { result ≤ 2 }
 {
-    // As for one request.
-    let _places = (no_file(rt), no_file(rt), no_file(rt));
     let mut readers = diff_readers_of(rt, request);
-    let mut out = CountedWriter::new(io::writer(rt));
+    let mut out = CountedWriter::new(Stream::Output(rt));
     let mut err = CountedWriter::new(rt.stderr());
-    compare_files(alloc, request, &mut readers, &mut out, &mut err)
+    let status = compare_files(alloc, request, &mut readers, &mut out, &mut err);
+    drop(out);
+    drop(readers);
+    status
+}
+
+/// Judges two programs over their files and the standard streams.
+fn run_verdicts(rt: &HostRuntime, alloc: Global, request: &VerdictRequest) -> u8
+    ensures { result ≤ 2 }
+{
+    let mut readers = verdict_readers_of(rt, request);
+    let mut out = CountedWriter::new(Stream::Output(rt));
+    let mut err = CountedWriter::new(rt.stderr());
+    let status = judge_files(alloc, request, &mut readers, &mut out, &mut err);
+    drop(out);
+    drop(readers);
+    status
 }
 
 /// Performs a simulation whose state is saved. A file that the request reads but for the state, or standard output, is no place for it.
@@ -163,20 +207,31 @@ fn run_saving(
         report(rt, &ToolFault::Memory);
         return 1;
     };
-    match is_taken(rt, alloc, sim, &saved) {
-        Ok(false) => (),
+    let status = match is_taken(rt, alloc, sim, &saved) {
+        Ok(false) => return run_into(rt, alloc, line, saved),
         Ok(true) => {
             report(rt, &ToolFault::Usage);
-            return 2;
+            2
         }
         Err(_) => {
             report(rt, &ToolFault::Memory);
-            return 1;
+            1
         }
-    }
-    let mut save = CountedWriter::new(saved);
+    };
+    drop(saved);
+    status
+}
+
+/// Performs a simulation whose state is saved to this file. Returns the status.
+fn run_into(rt: &HostRuntime, alloc: Global, line: &CommandLine, saved: SavedFile<'_>) -> u8
+    ensures { result ≤ 1 }
+{
+    let mut save = CountedWriter::new(Stream::Saved(saved));
     let status = run_with(rt, alloc, line, &mut save);
-    end_saving(rt, &save.into_inner(), status)
+    let saved = save.into_inner();
+    let status = end_saving(rt, &saved, status);
+    drop(saved);
+    status
 }
 
 /// Whether a state would be saved over the program, the stimulus or what standard output goes to.
@@ -195,10 +250,13 @@ fn is_taken(
 }
 
 /// Puts a state that was written in its place, or removes it where a fault stopped the request. Returns the status.
-fn end_saving(rt: &HostRuntime, saved: &SavedFile<'_>, status: u8) -> u8
+fn end_saving(rt: &HostRuntime, saved: &Stream<'_>, status: u8) -> u8
     requires { status ≤ 1 }
     ensures { result ≤ 1 }
 {
+    let Stream::Saved(saved) = saved else {
+        return status;
+    };
     if status != 0 {
         saved.discard();
         return status;
@@ -247,27 +305,31 @@ fn no_file(rt: &HostRuntime) -> io::Result<File> {
 }
 
 /// Performs a request on the real files and outputs, a state being saved by the writer `save`.
-fn run_with<W: Write>(
+fn run_with(
     rt: &HostRuntime,
     alloc: Global,
     line: &CommandLine,
-    save: &mut CountedWriter<W>,
+    save: &mut CountedWriter<Stream<'_>>,
 ) -> u8
-where
-    W: Drop,
     ensures { result ≤ 1 }
 {
     let mut readers = readers_of(rt, &line.request);
-    let mut out = CountedWriter::new(io::writer(rt));
+    let mut out = CountedWriter::new(Stream::Output(rt));
     let mut err = CountedWriter::new(rt.stderr());
-    perform_files(alloc, line, &mut readers, &mut out, save, &mut err)
+    let status = perform_files(alloc, line, &mut readers, &mut out, save, &mut err);
+    drop(out);
+    drop(readers);
+    status
 }
 
 /// Writes a text on standard output. Returns the status.
 fn show(rt: &HostRuntime, text: &str) -> u8
     ensures { result ≤ 1 }
 {
-    match put(&mut CountedWriter::new(io::writer(rt)), text.as_bytes()) {
+    let mut out = CountedWriter::new(Stream::Output(rt));
+    let written = put(&mut out, text.as_bytes());
+    drop(out);
+    match written {
         Ok(()) => 0,
         Err(_) => {
             report(rt, &ToolFault::Write);

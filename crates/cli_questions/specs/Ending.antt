@@ -17,6 +17,11 @@ use Rattle.cli_inputs.specs.Reports.{HasWordFault, IsReported, Logs}
 abbrev pub held_line : ℕ → List ℕ
 held_line rows = codes "rows " ++ (decimal rows ++ codes "\n")
 
+-- the line that says that two programs are equivalent, where they are
+abbrev pub equivalence_line : Bool → List ℕ
+equivalence_line true = codes "equivalent\n"
+equivalence_line false = []
+
 -- The rows, and what else is counted: `looks L`, `causes C`, `unsettled U`, `differences D`.
 abbrev pub counts_line : ListCounts → List ℕ
 counts_line (counts.Rows rows) = held_line rows
@@ -24,6 +29,8 @@ counts_line (counts.Causes s) = codes "rows " ++ (decimal s.rows ++ (codes " loo
 counts_line (counts.Groups s) = codes "rows " ++ (decimal s.rows ++ (codes " causes " ++ (decimal s.causes ++ codes "\n")))
 counts_line (counts.Possible rows unsettled) = codes "rows " ++ (decimal rows ++ (codes " unsettled " ++ (decimal unsettled ++ codes "\n")))
 counts_line (counts.Differences rows differences) = codes "rows " ++ (decimal rows ++ (codes " differences " ++ (decimal differences ++ codes "\n")))
+counts_line (counts.Verdicts same differs unsettled is_equivalent) =
+    codes "same " ++ (decimal same ++ (codes " differs " ++ (decimal differs ++ (codes " unsettled " ++ (decimal unsettled ++ (codes "\n" ++ equivalence_line is_equivalent))))))
 counts_line (counts.PossibleGroups rows causes unsettled) =
     codes "rows " ++ (decimal rows ++ (codes " causes " ++ (decimal causes ++ (codes " unsettled " ++ (decimal unsettled ++ codes "\n")))))
 

@@ -7,10 +7,11 @@ use Rattle.diagram_program.specs.Program.{Drawing}
 use Rattle.scan_cycle.specs.Programs.{diagram_of}
 use Rattle.scan_cycle.specs.Rung.{Held}
 use Rattle.scan_cycle.specs.Scan.{after_scan}
+use Rattle.scan_cycle.specs.Standing.{Standing}
 use Rattle.scan_symbolic.specs.KnownScan.{Known}
 use Rattle.invariant_cases.specs.Allowing.{AllowsState}
 use Rattle.invariant_cases.specs.declared.outcome.Outcome.{Outcome}
-use Rattle.diff_matching.specs.Matching.{Agree, AgreeOnInputs, Matching}
+use Rattle.diff_matching.specs.Matching.{Agree, AgreeOnInputs, AreShared, Matching, scanned}
 use Rattle.diff_cases.specs.Cases.{AreOfOneKind, IsSettledAlike}
 use Rattle.diff_cases.specs.declared.target.Target.{Target}
 use Rattle.diff_cases.specs.declared.target.Target.TheVariants.{Variable, Memory, Contents}
@@ -20,6 +21,10 @@ abbrev pub AreAlike : Target → Held → Held → Type 0
 AreAlike (Variable x) h g = slice_index_or h.values x.old false ≡ slice_index_or g.values x.new false
 AreAlike (Memory x) h g = slice_index_or h.kept.memories x.old false ≡ slice_index_or g.kept.memories x.new false
 AreAlike (Contents x) h g = slice_index_or h.kept.blocks x.old (new_block Ton) ≡ slice_index_or g.kept.blocks x.new (new_block Ton)
+
+-- One scan of each program at the same moment, from any states that agree, leaves the target alike.
+abbrev pub LeavesAlike : Matching → Drawing → Drawing → Target → Type 0
+LeavesAlike m p q target = (moment : ℕ) (s t : Standing) → AreShared m p q moment s t → AreAlike target (scanned p moment s) (scanned q moment t)
 
 -- Instances can be compared where they belong together and have one kind and one preset. Of variables and memories any two can.
 abbrev pub IsComparable : Matching → Drawing → Drawing → Target → Type 0

@@ -18,6 +18,8 @@ use Rattle.invariant_cases.specs.declared.outcome.Outcome.{Outcome}
 use Rattle.invariant_cases.specs.declared.point.Point.{Point}
 use Rattle.invariant_cases.specs.declared.point.Point.TheVariants as point
 use Rattle.diff_matching.specs.Matching.{Matching}
+use Rattle.diff_cases.specs.declared.joint.Joint.{Joint}
+use Rattle.diff_cases.specs.declared.joint.Joint.TheVariants.{Points, Instances}
 use Rattle.diff_cases.specs.declared.joint.JointInstances.{JointInstances}
 use Rattle.diff_cases.specs.declared.joint.JointPoint.{JointPoint}
 use Rattle.diff_cases.specs.declared.target.Target.{Target}
@@ -54,6 +56,11 @@ MayAnswerJointly m p q x y = Unit {0}
 
 abbrev pub CanAnswerAlike : Matching → Drawing → Drawing → JointInstances → Type 0
 CanAnswerAlike m p q joint = MayAnswerJointly m p q joint.old joint.new
+
+-- Cases may be made of points that belong together, or of instances that answer alike.
+abbrev pub MayBeCases : Matching → Drawing → Drawing → Joint → Type 0
+MayBeCases m p q (Points joint) = BelongTogether m joint
+MayBeCases m p q (Instances joint) = CanAnswerAlike m p q joint
 
 -- ---- what is known in one of the programs
 

@@ -2,15 +2,14 @@
 
 ghost use Rattle.std.specs.Prelude.{◌≡◌, ◌≤◌, ◌<◌, IsTrue, false};
 ghost use Rattle.diff_cases.specs.Buffers.{AreAlikeBuffers, KeepAlikeBuffers};
-ghost use Rattle.diff_cases.specs.Cases.{BelongTogether, CanAnswerAlike, IsSettledAlike, IsToldAlike, answering_in, pinned_in};
+ghost use Rattle.diff_cases.specs.Cases.{BelongTogether, CanAnswerAlike, IsSettledAlike, IsToldAlike, MayBeCases, answering_in, pinned_in};
 
 use crate::buffers::AlikeBuffers;
-use crate::choosing::choose;
-use crate::joint::{JointInstances, JointPoint};
+use crate::choosing::next_joint;
+use crate::joint::{Joint, JointInstances, JointPoint};
 use crate::looking::{AlikeQuestion, Likeness, look};
-use crate::partners::Chosen;
 use crate::pinning::{answer_in, pin_answer_in, pin_in, told_in};
-use invariant_cases::{Answer, Point};
+use invariant_cases::Answer;
 use scan_signals::Tri;
 
 /// Whether it is settled, and how many looks are left.
@@ -49,8 +48,8 @@ pub fn settle(question: AlikeQuestion<'_>, buffers: &mut AlikeBuffers, looks: u3
             is_settled: false,
             looks: left,
         },
-        Likeness::Open => match choose(question, buffers) {
-            Some(chosen) => split(question, chosen, buffers, left),
+        Likeness::Open => match next_joint(question, buffers) {
+            Some(joint) => split(question, joint, buffers, left),
             None => Search {
                 is_settled: false,
                 looks: left,
@@ -59,31 +58,24 @@ pub fn settle(question: AlikeQuestion<'_>, buffers: &mut AlikeBuffers, looks: u3
     }
 }
 
-/// The same by cases of a point of one program, and of the one that belongs to it.
+/// The same by cases of what both programs have.
 #[cycle(settling)]
 fn split(
     question: AlikeQuestion<'_>,
-    chosen: Chosen,
+    joint: Joint,
     buffers: &mut AlikeBuffers,
     looks: u32,
 ) -> Search
-    requires { AreAlikeBuffers question.old.now question.new.now buffers.old }
+    requires buffers { AreAlikeBuffers question.old.now question.new.now buffers.old }
+    requires joint { MayBeCases question.matching.now question.old.now question.new.now joint }
     ensures settled { IsTrue result.is_settled
         → IsSettledAlike question.entry.old.now question.entry.new.now question.entry.matching.now question.entry.target buffers.old.of_old.case buffers.old.of_new.case }
     ensures looks { result.looks ≤ looks }
     ensures buffers { KeepAlikeBuffers question.entry.old.now question.entry.new.now buffers.old buffers.new }
 {
-    match chosen.point {
-        Point::Answer(inst) => {
-            let joint = buffers
-                .partners
-                .joint_instances(question, chosen.side, inst);
-            by_answers(question, joint, buffers, looks)
-        }
-        Point::Variable(_) | Point::Output(_) | Point::Memory(_) => {
-            let joint = buffers.partners.joint_point(question.matching, chosen);
-            by_values(question, joint, buffers, looks)
-        }
+    match joint {
+        Joint::Points(points) => by_values(question, points, buffers, looks),
+        Joint::Instances(instances) => by_answers(question, instances, buffers, looks),
     }
 }
 

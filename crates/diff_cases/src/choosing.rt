@@ -1,10 +1,12 @@
 //! Which point cases are made of next: one that leaves open what is asked. The choice decides how long a search takes, and nothing else.
 
-ghost use Rattle.std.specs.Prelude.{◌<◌};
+ghost use Rattle.std.specs.Prelude.{◌<◌, IfSome};
 ghost use Rattle.invariant_cases.specs.Buffers.{AreCaseBuffers, KeepBuffers};
 ghost use Rattle.diff_cases.specs.Buffers.{AreAlikeBuffers, KeepAlikeBuffers};
+ghost use Rattle.diff_cases.specs.Cases.{MayBeCases};
 
 use crate::buffers::AlikeBuffers;
+use crate::joint::Joint;
 use crate::looking::{AlikeQuestion, scan_case};
 use crate::owners::{Owner, find_owner, first_written, is_written_before, read_by};
 use crate::partners::{Chosen, Side, number_of};
@@ -186,7 +188,7 @@ fn choose_in(
 }
 
 /// A point that leaves the target open in the old program, or else in the new one, after a look.
-pub(crate) fn choose(question: AlikeQuestion<'_>, buffers: &mut AlikeBuffers) -> Option<Chosen>
+fn choose(question: AlikeQuestion<'_>, buffers: &mut AlikeBuffers) -> Option<Chosen>
     requires { AreAlikeBuffers question.old.now question.new.now buffers.old }
     ensures { KeepAlikeBuffers question.entry.old.now question.entry.new.now buffers.old buffers.new }
 {
@@ -213,4 +215,16 @@ pub(crate) fn choose(question: AlikeQuestion<'_>, buffers: &mut AlikeBuffers) ->
         }),
         None => None,
     }
+}
+
+/// What the next cases are made of, after a look: what leaves the target open in one program, and what belongs to it in the other.
+pub fn next_joint(question: AlikeQuestion<'_>, buffers: &mut AlikeBuffers) -> Option<Joint>
+    requires { AreAlikeBuffers question.old.now question.new.now buffers.old }
+    ensures joint { IfSome result (MayBeCases question.entry.matching.now question.entry.old.now question.entry.new.now) }
+    ensures buffers { KeepAlikeBuffers question.entry.old.now question.entry.new.now buffers.old buffers.new }
+{
+    let Some(chosen) = choose(question, buffers) else {
+        return None;
+    };
+    Some(buffers.partners.joint(question, chosen))
 }

@@ -15,3 +15,10 @@ pub struct JointInstances {
     pub old: Option<usize>,
     pub new: Option<usize>,
 }
+
+/// What cases are made of: points that are OFF or ON, or instances by what they answer.
+#[derive(Clone, Copy, Debug, PartialEq, Eq)]
+pub enum Joint {
+    Points(JointPoint),
+    Instances(JointInstances),
+}

@@ -2,9 +2,9 @@
 
 ghost use Rattle.std.specs.Prelude.{◌≡◌, ◌⊎◌, ◌↔◌, Contains, IfSome, IsTrue, Some};
 ghost use Rattle.diff_matching.specs.Matching.{Matching};
-ghost use Rattle.diff_cases.specs.Cases.{AreOfOneKind, BelongTogether, CanAnswerAlike};
+ghost use Rattle.diff_cases.specs.Cases.{AreOfOneKind, BelongTogether, CanAnswerAlike, MayBeCases};
 
-use crate::joint::{JointInstances, JointPoint};
+use crate::joint::{Joint, JointInstances, JointPoint};
 use crate::looking::AlikeQuestion;
 use diagram_program::Program;
 use diff_matching::{Matching, Pair};
@@ -168,7 +168,7 @@ impl Partners {
     }
 
     /// A point of one program with the one that belongs to it, where there is one.
-    pub(crate) fn joint_point(&self, matching: &Matching, chosen: Chosen) -> JointPoint
+    fn joint_point(&self, matching: &Matching, chosen: Chosen) -> JointPoint
         ensures { BelongTogether matching.now result }
     {
         let side = chosen.side;
@@ -189,8 +189,22 @@ impl Partners {
         }
     }
 
+    /// What was chosen of one program, with what belongs to it.
+    pub(crate) fn joint(&self, question: AlikeQuestion<'_>, chosen: Chosen) -> Joint
+        ensures { MayBeCases question.entry.matching.now question.entry.old.now question.entry.new.now result }
+    {
+        match chosen.point {
+            Point::Answer(inst) => {
+                Joint::Instances(self.joint_instances(question, chosen.side, inst))
+            }
+            Point::Variable(_) | Point::Output(_) | Point::Memory(_) => {
+                Joint::Points(self.joint_point(question.matching, chosen))
+            }
+        }
+    }
+
     /// An instance of one program with the one that belongs to it, where there is one with the same kind and the same preset.
-    pub(crate) fn joint_instances(
+    fn joint_instances(
         &self,
         question: AlikeQuestion<'_>,
         side: Side,

@@ -10,7 +10,7 @@ use scan_partial::Knowledge;
 use scan_signals::Tri;
 
 /// What is known of a point.
-pub(crate) fn told_in(point: Option<Point>, known: &Knowledge<Tri, Outcome>) -> Tri
+pub fn told_in(point: Option<Point>, known: &Knowledge<Tri, Outcome>) -> Tri
     ensures { result ≡ told_in point known.now }
 {
     match point {
@@ -20,7 +20,7 @@ pub(crate) fn told_in(point: Option<Point>, known: &Knowledge<Tri, Outcome>) -> 
 }
 
 /// Gives a point a value.
-pub(crate) fn pin_in(point: Option<Point>, value: Tri, known: &mut Knowledge<Tri, Outcome>)
+pub fn pin_in(point: Option<Point>, value: Tri, known: &mut Knowledge<Tri, Outcome>)
     ensures known { known.new ≡ pinned_in known.old point value }
     ensures sizes { AreAsLong known.new known.old }
 {
@@ -30,7 +30,7 @@ pub(crate) fn pin_in(point: Option<Point>, value: Tri, known: &mut Knowledge<Tri
 }
 
 /// What an instance answers.
-pub(crate) fn answer_in(inst: Option<usize>, known: &Knowledge<Tri, Outcome>) -> Answer
+pub fn answer_in(inst: Option<usize>, known: &Knowledge<Tri, Outcome>) -> Answer
     ensures { result ≡ answer_in inst known.now }
 {
     match inst {
@@ -40,11 +40,7 @@ pub(crate) fn answer_in(inst: Option<usize>, known: &Knowledge<Tri, Outcome>) ->
 }
 
 /// Says what an instance answers.
-pub(crate) fn pin_answer_in(
-    inst: Option<usize>,
-    answer: Answer,
-    known: &mut Knowledge<Tri, Outcome>,
-)
+pub fn pin_answer_in(inst: Option<usize>, answer: Answer, known: &mut Knowledge<Tri, Outcome>)
     ensures known { known.new ≡ answering_in known.old inst answer }
     ensures sizes { AreAsLong known.new known.old }
 {

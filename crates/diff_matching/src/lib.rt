@@ -11,3 +11,4 @@ mod owner;
 pub use agreement::agree;
 pub use carrying::carry;
 pub use matching::{Matching, Pair};
+pub use owner::{Owner, owner_of};

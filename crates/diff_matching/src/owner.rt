@@ -11,7 +11,7 @@ use std::alloc::{AllocError, Global};
 
 /// Whose a memory of an edge is.
 #[derive(Clone, Copy)]
-pub(crate) enum Owner {
+pub enum Owner {
     /// Of contacts that read this variable.
     Variable(usize),
     /// Of contacts that read the output of this instance.
@@ -70,7 +70,7 @@ fn owner_with(number: usize, edge: Option<(usize, Owner)>) -> Option<Owner>
 }
 
 /// The owner of a memory, by its number.
-fn owner_of(program: &Program, number: usize) -> Option<Owner>
+pub fn owner_of(program: &Program, number: usize) -> Option<Owner>
     ensures { result ≡ owner_of program.now number }
 {
     for place in 0..PLACES * program.rungs() {

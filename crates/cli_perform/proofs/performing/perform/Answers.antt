@@ -51,3 +51,29 @@ returns-in-Progress-clause-done g c = λ status. rw c.in-Progress.is (c.list_pro
 
 pub returns-in-Progress-clause-failed : goal.returns-in-Progress-clause-failed
 returns-in-Progress-clause-failed g c = λ status. rw c.in-Progress.is (with_third refl (c.list_progress.ensures.failed (g.S.Sink.log c.args.save.now) status))
+
+pub returns-in-Causes-clause-done : goal.returns-in-Causes-clause-done
+returns-in-Causes-clause-done g c = λ status. rw c.in-Causes.is (c.list_causes.ensures.done status, refl)
+
+pub returns-in-Groups-clause-done : goal.returns-in-Groups-clause-done
+returns-in-Groups-clause-done g c = λ status. rw c.in-Groups.is (c.list_groups.ensures.done status, refl)
+
+pub returns-in-Held-clause-done : goal.returns-in-Held-clause-done
+returns-in-Held-clause-done g c = λ status. rw c.in-Held.is (c.list_held.ensures.done status, refl)
+
+pub returns-in-Relevant-clause-done : goal.returns-in-Relevant-clause-done
+returns-in-Relevant-clause-done g c = λ status. rw c.in-Relevant.is (c.list_relevant.ensures.done status, refl)
+
+pub returns-in-Reach-clause-done : goal.returns-in-Reach-clause-done
+returns-in-Reach-clause-done g c = λ status. rw c.in-Reach.is (c.reach.ensures.done status, refl)
+
+pub returns-in-Never-clause-done : goal.returns-in-Never-clause-done
+returns-in-Never-clause-done g c = λ status. rw c.in-Never.is (c.list_never.ensures.done status, refl)
+
+pub returns-in-Possible-clause-done : goal.returns-in-Possible-clause-done
+returns-in-Possible-clause-done g c = λ status. rw c.in-Possible.is (c.list_possible.ensures.done status, refl)
+
+pub returns-in-Import-clause-done : goal.returns-in-Import-clause-done
+returns-in-Import-clause-done g c = λ status.
+    let done = c.import_project.ensures.done status in
+    rw c.in-Import.is (done.0, refl, done.1)

@@ -1,0 +1,14 @@
+use Rattle.std.proofs.Common.{refl}
+use Rattle.clap.specs.Words.{found_of, rows_of}
+use Rattle.cli_arguments.proofs.Faults.{no_comparison, no_diff_with_looks, no_verdicts_with_coil, usage_weaker}
+use Rattle.cli_arguments.proofs.comparing.coil_task.Goals as goal
+
+pub returns-then-is_given-clause-err : goal.returns-then-is_given-clause-err
+returns-then-is_given-clause-err c =
+    let rows = rows_of (found_of c.args.found.now) in
+    no_comparison rows (no_diff_with_looks rows (c.if-is_given.ensures.given refl).1) (no_verdicts_with_coil rows c.requires)
+
+pub returns-in-Err-clause-err : goal.returns-in-Err-clause-err
+returns-in-Err-clause-err c =
+    let rows = rows_of (found_of c.args.found.now) in
+    usage_weaker _ (λ none. no_comparison rows none (no_verdicts_with_coil rows c.requires)) c.in-Err.ensures.err

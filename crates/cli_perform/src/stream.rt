@@ -1,0 +1,41 @@
+//! What a request writes to.
+
+use crate::saving::SavedFile;
+use std::fs::File;
+use std::io::{self, Write};
+
+/// What a request writes to: one type for all of it, so that whatever writes is compiled once.
+#[derive(Drop)]
+pub(crate) enum Stream<'a> {
+    /// Standard output.
+    Output(&'a HostRuntime),
+    /// The file of a coil, made anew and empty. One that couldn't be made is a failed write.
+    Coil(io::Result<File>),
+    /// The file that a state is saved to.
+    Saved(SavedFile<'a>),
+    /// What is written here is let go.
+    Nothing,
+}
+
+impl Write for Stream<'_> {
+    /// Writes to it; if a file couldn't be made, the error of that is the error of each write.
+    fn write(&mut self, bytes: &[u8]) -> io::Result<usize> {
+        match self {
+            Stream::Output(rt) => io::writer(*rt).write(bytes),
+            Stream::Coil(Ok(file)) => file.write(bytes),
+            Stream::Coil(Err(error)) => Err(io::Error::from(error.kind())),
+            Stream::Saved(saved) => saved.write(bytes),
+            Stream::Nothing => Ok(bytes.len()),
+        }
+    }
+
+    /// Flushes it; if a file couldn't be made, the error of that is the error of each call.
+    fn flush(&mut self) -> io::Result<()> {
+        match self {
+            Stream::Coil(Ok(file)) => file.flush(),
+            Stream::Coil(Err(error)) => Err(io::Error::from(error.kind())),
+            Stream::Saved(saved) => saved.flush(),
+            Stream::Output(_) | Stream::Nothing => Ok(()),
+        }
+    }
+}

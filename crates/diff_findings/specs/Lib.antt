@@ -1,0 +1,3 @@
+pub mod Findings
+pub mod Tally
+pub mod Equivalence

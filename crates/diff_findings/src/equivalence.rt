@@ -1,0 +1,97 @@
+//! Whether two programs are equivalent.
+
+ghost use Rattle.std.specs.Prelude.{◌≡◌, ◌↔◌, IfOk, IsTrue};
+ghost use Rattle.std.specs.List.{list_any};
+ghost use Rattle.diff_matching.specs.Runs.{HaveNoInput};
+ghost use Rattle.diff_verdicts.specs.Verdicts.{AreTrue};
+ghost use Rattle.diff_findings.specs.Equivalence.{BeginAlike, IsSaidOfRuns, is_about_terminals, is_output_alone, is_output_of};
+ghost use Rattle.diff_findings.specs.Findings.{findings};
+
+use crate::finding::{Finding, Remark, Sort, Subject};
+use crate::listing::Compared;
+use diagram_declarations::VarKind;
+use diagram_program::Program;
+use diff_matching::agree;
+use diff_verdicts::are_all_same;
+use diff_verdicts::laws::fresh_runs_agree;
+use scan_cycle::{Memory, State};
+use std::alloc::Global;
+
+/// Whether all that belongs together begins alike.
+fn begin_alike(alloc: Global, compared: Compared<'_>) -> Result<bool, Memory>
+    ensures { IfOk result (λ b. IsTrue b ↔ BeginAlike compared.entry.matching.now compared.entry.old.now compared.entry.new.now) }
+{
+    let old = State::fresh(alloc, compared.old)?;
+    let new = State::fresh(alloc, compared.new)?;
+    Ok(agree(compared.matching, &old, &new))
+}
+
+/// Whether a variable is an output.
+fn is_output_of(program: &Program, var: usize) -> bool
+    ensures { result ≡ is_output_of program.now var }
+{
+    match program.decls().vars().get(var) {
+        Some(var) => match var.kind {
+            VarKind::Output => true,
+            VarKind::Input | VarKind::Memory => false,
+        },
+        None => false,
+    }
+}
+
+/// Whether a subject is an output, of the program that alone has it.
+fn is_output_alone(compared: Compared<'_>, subject: Subject) -> bool
+    ensures { result ≡ is_output_alone compared.entry.old.now compared.entry.new.now subject }
+{
+    match subject.sort {
+        Sort::NewVariable => is_output_of(compared.new, subject.number),
+        Sort::OldVariable => is_output_of(compared.old, subject.number),
+        Sort::NewInstance | Sort::OldInstance | Sort::NewEdge => false,
+    }
+}
+
+/// Whether a finding says that a variable has another address, or that an output belongs to one program alone.
+fn is_about_terminals(compared: Compared<'_>, finding: &Finding) -> bool
+    ensures { result ≡ is_about_terminals compared.entry.old.now compared.entry.new.now finding.now }
+{
+    match finding.remark {
+        Remark::Moved { .. } => true,
+        Remark::Alone => is_output_alone(compared, finding.subject),
+        Remark::Judged(_) | Remark::Initial { .. } | Remark::Preset { .. } => false,
+    }
+}
+
+/// Whether some finding does.
+fn tells_terminals(compared: Compared<'_>, list: &[Finding]) -> bool
+    ensures { result ≡ list_any (is_about_terminals compared.entry.old.now compared.entry.new.now) list.now }
+{
+    list.iter()
+        .any(|finding| is_about_terminals(compared, finding))
+}
+
+/// Whether all that belongs together in two programs is left alike and begins alike, and the outputs are the same ones at the same addresses,
+/// by what is found of them. Then no run from the fresh states tells the programs apart.
+///
+/// # Errors
+///
+/// `Memory` when out of memory.
+pub fn are_equivalent(
+    alloc: Global,
+    compared: Compared<'_>,
+    list: &[Finding],
+) -> Result<bool, Memory>
+    requires judged { AreTrue compared.matching.now compared.old.now compared.new.now compared.verdicts.now }
+    requires no_input { HaveNoInput compared.matching.now compared.old.now compared.new.now }
+    requires list { list.now ≡ findings compared.old.now compared.new.now compared.matching.now compared.verdicts.now }
+    ensures { IfOk result (IsSaidOfRuns compared.entry.matching.now compared.entry.old.now compared.entry.new.now compared.entry.verdicts.now) }
+{
+    fresh_runs_agree(compared.old, compared.new);
+    if !are_all_same(compared.verdicts) || tells_terminals(compared, list) {
+        return Ok(false);
+    }
+    match begin_alike(alloc, compared) {
+        Ok(true) => Ok(true),
+        Ok(false) => Ok(false),
+        Err(_) => Err(Memory),
+    }
+}

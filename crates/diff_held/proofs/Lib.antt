@@ -1,0 +1,3 @@
+mod Starting
+mod Merges
+mod Stepping

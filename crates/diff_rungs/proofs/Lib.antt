@@ -1,0 +1,6 @@
+mod Acting
+mod Ending
+mod Going
+mod Lists
+mod Linking
+mod States

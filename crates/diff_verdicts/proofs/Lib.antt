@@ -1,0 +1,3 @@
+mod Equivalent
+mod Listing
+mod Opening

@@ -1,0 +1,56 @@
+-- A judge: what a caller sees of it, and what it judges with.
+use Rattle.std.specs.Prelude.{◌≡◌, length, replicate}
+use Rattle.diagram_program.specs.Program.{Drawing}
+use Rattle.scan_signals.specs.declared.tri.Tri.{Tri}
+use Rattle.scan_signals.specs.declared.tri.Tri.TheVariants.{Unsure}
+use Rattle.scan_cycle.specs.Standing.{Fits, Standing}
+use Rattle.scan_symbolic.specs.KnownScan.{Known}
+use Rattle.invariant_cases.specs.declared.outcome.Outcome.{Outcome}
+use Rattle.invariant_sets.specs.Never.{Bits, knowing}
+use Rattle.diff_matching.specs.Matching.{Matching}
+use Rattle.diff_cases.specs.Alike.{IsComparable}
+use Rattle.diff_cases.specs.Cases.{IsToldAlike}
+use Rattle.diff_cases.specs.declared.target.Target.{Target}
+use Rattle.diff_verdicts.specs.declared.content.TheConstants.{MOMENT}
+use Rattle.diff_verdicts.specs.declared.asking.Nothing.{Nothing}
+use Rattle.diff_verdicts.specs.declared.checking.Tried.{Tried}
+
+-- What a caller sees: the two programs, what belongs together in them, and the states that showed a difference last.
+pub record Judging : Type 0 where
+  pub old_program : Drawing
+  pub new_program : Drawing
+  pub matching : Matching
+  pub old_state : Standing
+  pub new_state : Standing
+
+-- The second judges the same programs by the same matching.
+pub record JudgesTheSame (j k : Judging) : Type 0 where
+  pub old_program : k.old_program ≡ j.old_program
+  pub new_program : k.new_program ≡ j.new_program
+  pub matching : k.matching ≡ j.matching
+
+-- The set that claims nothing of the program.
+abbrev pub no_claims : Drawing → Bits
+no_claims p = record { variables = replicate (length p.decls.vars) Unsure; instances = replicate (length p.decls.instances) Unsure }
+
+-- All that is known of any state of the program.
+abbrev pub knowing_nothing : Drawing → Known Tri Outcome
+knowing_nothing p = knowing p (no_claims p)
+
+-- One scan of each over three values tells that the target is left alike, where nothing is known before it.
+abbrev pub IsToldAtOnce : Matching → Drawing → Drawing → Target → Type 0
+IsToldAtOnce m p q target = IsComparable m p q target × IsToldAlike p q target (knowing_nothing p) (knowing_nothing q)
+
+-- Private: both sets claim nothing.
+pub record ClaimNothing (p q : Drawing) (n : Nothing) : Type 0 where
+  pub of_old : n.of_old ≡ no_claims p
+  pub of_new : n.of_new ≡ no_claims q
+
+-- Private: the states are of the two programs, and those before a scan at the moment at which they are tried.
+pub record AreTried (p q : Drawing) (t : Tried) : Type 0 where
+  pub old_fits : Fits p t.old_state
+  pub new_fits : Fits q t.new_state
+  pub old_moment : t.old_state.moment ≡ MOMENT
+  pub new_moment : t.new_state.moment ≡ MOMENT
+  pub old_end : Fits p t.old_end
+  pub new_end : Fits q t.new_end

@@ -1,0 +1,141 @@
+//! Whether two states are a witness of a difference, as they stand.
+
+ghost use Rattle.std.specs.Prelude.{◌≡◌, ◌↔◌, IfOk, IfSome, IsTrue};
+ghost use Rattle.scan_cycle.specs.Standing.{Fits};
+ghost use Rattle.diff_matching.specs.Matching.{scanned};
+ghost use Rattle.diff_cases.specs.Alike.{AreAlike};
+ghost use Rattle.diff_verdicts.specs.Judging.{AreTried};
+ghost use Rattle.diff_verdicts.specs.Verdicts.{Shows, new_value, old_value};
+ghost use Rattle.diff_verdicts.specs.declared.content.TheConstants.{MOMENT};
+
+use crate::content::MOMENT;
+use diagram_program::Program;
+use diff_cases::{AlikeQuestion, Target};
+use diff_matching::agree;
+use scan_cycle::{Memory, State, scan};
+use scan_signals::Stored;
+use std::alloc::Global;
+
+/// Two states that are tried, and what a scan of each leaves.
+#[derive(Drop)]
+pub(crate) struct Tried {
+    pub old_state: State,
+    pub new_state: State,
+    pub old_end: State,
+    pub new_end: State,
+}
+
+/// What two scans leave of the target.
+#[derive(Clone, Copy)]
+pub(crate) struct Ends {
+    pub of_old: bool,
+    pub of_new: bool,
+}
+
+/// A fresh state, at the moment at which all are that are tried.
+fn state_to_try(alloc: Global, program: &Program) -> Result<State, Memory>
+    ensures fits { IfOk result (λ s. Fits program.now s) }
+    ensures moment { IfOk result (λ s. s.moment ≡ MOMENT) }
+{
+    let mut state = State::fresh(alloc, program)?;
+    state.set_moment(MOMENT);
+    Ok(state)
+}
+
+/// States of two programs.
+pub(crate) fn new_tried(alloc: Global, old: &Program, new: &Program) -> Result<Tried, Memory>
+    ensures { IfOk result (λ t. AreTried old.now new.now t) }
+{
+    let old_state = state_to_try(alloc, old)?;
+    let new_state = state_to_try(alloc, new)?;
+    let old_end = State::fresh(alloc, old)?;
+    let new_end = State::fresh(alloc, new)?;
+    Ok(Tried {
+        old_state,
+        new_state,
+        old_end,
+        new_end,
+    })
+}
+
+/// Whether both store the same.
+fn is_same(a: Stored, b: Stored) -> bool
+    ensures { IsTrue result ↔ (a ≡ b) }
+{
+    a == b
+}
+
+/// Whether the target is alike in both states.
+fn are_alike(target: Target, old: &State, new: &State) -> bool
+    ensures { IsTrue result ↔ AreAlike target old.now.held new.now.held }
+{
+    match target {
+        Target::Variable(pair) => old.value_or_off(pair.old) == new.value_or_off(pair.new),
+        Target::Memory(pair) => {
+            old.storage().memory_at(pair.old) == new.storage().memory_at(pair.new)
+        }
+        Target::Contents(pair) => is_same(old.stored(pair.old), new.stored(pair.new)),
+    }
+}
+
+/// What a state of the old program has of the target.
+fn old_value(target: Target, state: &State) -> bool
+    ensures { result ≡ old_value target state.now.held }
+{
+    match target {
+        Target::Variable(pair) => state.value_or_off(pair.old),
+        Target::Memory(pair) => state.storage().memory_at(pair.old),
+        Target::Contents(pair) => state.stored(pair.old).q(),
+    }
+}
+
+/// What a state of the new program has of it.
+fn new_value(target: Target, state: &State) -> bool
+    ensures { result ≡ new_value target state.now.held }
+{
+    match target {
+        Target::Variable(pair) => state.value_or_off(pair.new),
+        Target::Memory(pair) => state.storage().memory_at(pair.new),
+        Target::Contents(pair) => state.stored(pair.new).q(),
+    }
+}
+
+/// Makes one scan of a copy of the state.
+fn scan_copy(program: &Program, state: &State, end: &mut State)
+    requires state { Fits program.now state.now }
+    requires end { Fits program.now end.old }
+    requires moment { state.now.moment ≡ MOMENT }
+    ensures held { end.new.held ≡ scanned program.now MOMENT state.now }
+    ensures fits { Fits program.now end.new }
+{
+    state.checked();
+    end.checked();
+    end.copy_from(state);
+    match scan(program, end, &[], MOMENT) {
+        Ok(()) => {}
+        Err(_) => {}
+    }
+}
+
+/// What a scan of each of the two states leaves, where they agree and it leaves the target different.
+pub(crate) fn check(question: AlikeQuestion<'_>, tried: &mut Tried) -> Option<Ends>
+    requires { AreTried question.old.now question.new.now tried.old }
+    ensures shown { IfSome result (λ ends. Shows question.entry.matching.now question.entry.old.now question.entry.new.now question.entry.target
+        tried.new.old_state tried.new.new_state ends.of_old ends.of_new) }
+    ensures tried { AreTried question.entry.old.now question.entry.new.now tried.new }
+{
+    tried.old_state.checked();
+    tried.new_state.checked();
+    if !agree(question.matching, &tried.old_state, &tried.new_state) {
+        return None;
+    }
+    scan_copy(question.old, &tried.old_state, &mut tried.old_end);
+    scan_copy(question.new, &tried.new_state, &mut tried.new_end);
+    if are_alike(question.target, &tried.old_end, &tried.new_end) {
+        return None;
+    }
+    Some(Ends {
+        of_old: old_value(question.target, &tried.old_end),
+        of_new: new_value(question.target, &tried.new_end),
+    })
+}

@@ -1,0 +1,163 @@
+//! The judge of what two programs leave alike.
+
+ghost use Rattle.std.specs.Prelude.{◌≡◌, ◌<◌, Bool, IfOk};
+ghost use Rattle.diff_cases.specs.declared.target.Target.TheVariants.{Contents, Memory as Edge, Variable};
+ghost use Rattle.diff_matching.specs.Suited.{IsSuited};
+ghost use Rattle.diff_rungs.specs.Common.{AreLeftAlike};
+ghost use Rattle.diff_verdicts.specs.Judging.{IsToldAtOnce, JudgesTheSame};
+ghost use Rattle.diff_verdicts.specs.Verdicts.{CanBeJudged, IsTrueOf, Shows};
+ghost use Rattle.diff_verdicts.specs.declared.content.TheConstants.{MOMENT};
+ghost use Rattle.diff_verdicts.specs.declared.verdict.Verdict.TheVariants.{Differs, Same, Unsettled};
+
+use crate::asking::{Nothing, claim_nothing, find, is_same};
+use crate::checking::{Tried, new_tried};
+use crate::content::MOMENT;
+use crate::verdict::Verdict;
+use diagram_program::Program;
+use diff_cases::{AlikeBuffers, AlikeQuestion, Target};
+use diff_matching::Matching;
+use diff_rungs::{InCommon, common};
+use invariant_cases::Writers;
+use scan_cycle::{Memory, State};
+use std::alloc::Global;
+use std::marker::Model;
+
+/// Judges what two programs leave alike.
+///
+/// It borrows the programs and what belongs together in them. Once made, it does not allocate.
+#[derive(Drop)]
+pub struct Judge<'a> {
+    old_program: &'a Program,
+    new_program: &'a Program,
+    matching: &'a Matching,
+    old_writers: Writers,
+    new_writers: Writers,
+    nothing: Nothing,
+    buffers: AlikeBuffers,
+    tried: Tried,
+}
+
+impl<'a> Model for Judge<'a> {
+    ghost use Rattle.diff_cases.specs.Buffers.{AreAlikeBuffers};
+    ghost use Rattle.diff_verdicts.specs.Judging.{AreTried, ClaimNothing, Judging};
+
+    ghost Value = { Judging };
+
+    ghost view = { λ j. record {
+      old_program = j.old_program.now;
+      new_program = j.new_program.now;
+      matching = j.matching.now;
+      old_state = j.tried.old_state;
+      new_state = j.tried.new_state;
+    } };
+
+    ghost invariant = { λ j. ClaimNothing j.old_program.now j.new_program.now j.nothing
+        × AreAlikeBuffers j.old_program.now j.new_program.now j.buffers × AreTried j.old_program.now j.new_program.now j.tried };
+}
+
+/// The states that showed a difference, and the moment at which one scan of each does.
+#[derive(Clone, Copy)]
+pub struct Witness<'a> {
+    pub moment: u64,
+    pub old_state: &'a State,
+    pub new_state: &'a State,
+}
+
+impl<'a> Judge<'a> {
+    /// A judge of two programs.
+    ///
+    /// # Errors
+    ///
+    /// `Memory` when out of memory.
+    pub fn new(
+        alloc: Global,
+        old: &'a Program,
+        new: &'a Program,
+        matching: &'a Matching,
+    ) -> Result<Judge<'a>, Memory>
+        ensures old { IfOk result (λ j. j.old_program ≡ old.now) }
+        ensures new { IfOk result (λ j. j.new_program ≡ new.now) }
+        ensures matching { IfOk result (λ j. j.matching ≡ matching.now) }
+    {
+        let old_writers = Writers::new(alloc, old)?;
+        let new_writers = Writers::new(alloc, new)?;
+        let nothing = claim_nothing(alloc, old, new)?;
+        let buffers = AlikeBuffers::new(alloc, old, new, matching)?;
+        let tried = new_tried(alloc, old, new)?;
+        Ok(Judge {
+            old_program: old,
+            new_program: new,
+            matching,
+            old_writers,
+            new_writers,
+            nothing,
+            buffers,
+            tried,
+        })
+    }
+
+    /// What belongs together in the programs.
+    pub fn matching(&self) -> &'a Matching
+        ensures { result.now ≡ self.entry.now.matching }
+    {
+        self.matching
+    }
+
+    /// What rungs in common leave alike.
+    ///
+    /// # Errors
+    ///
+    /// `Memory` when out of memory.
+    pub(crate) fn in_common(&self, alloc: Global) -> Result<InCommon, Memory>
+        requires { IsSuited self.now.matching self.now.old_program self.now.new_program }
+        ensures variables { IfOk result (λ c. AreLeftAlike Variable self.entry.now.matching.variables c.variables.items self.entry.now.matching self.entry.now.old_program self.entry.now.new_program) }
+        ensures instances { IfOk result (λ c. AreLeftAlike Contents self.entry.now.matching.instances c.instances.items self.entry.now.matching self.entry.now.old_program self.entry.now.new_program) }
+        ensures memories { IfOk result (λ c. AreLeftAlike Edge self.entry.now.matching.memories c.memories.items self.entry.now.matching self.entry.now.old_program self.entry.now.new_program) }
+    {
+        common(alloc, self.matching, self.old_program, self.new_program)
+    }
+
+    /// The states of the last verdict that something differs. Before one they are any states of the programs.
+    pub fn witness(&self) -> Witness<'_>
+        ensures moment { result.moment ≡ MOMENT }
+        ensures old_state { result.old_state.now ≡ self.entry.now.old_state }
+        ensures new_state { result.new_state.now ≡ self.entry.now.new_state }
+    {
+        Witness {
+            moment: MOMENT,
+            old_state: &self.tried.old_state,
+            new_state: &self.tried.new_state,
+        }
+    }
+
+    /// Judges a target by at most so many looks for a proof, and as many for a difference; a look is a scan of each program.
+    pub fn judge(&mut self, target: Target, looks: u32) -> Verdict
+        requires target { CanBeJudged self.old.matching target }
+        ensures truth { IsTrueOf self.old.matching self.old.old_program self.old.new_program target result }
+        ensures shown { (a b : Bool) → result ≡ Differs a b
+            → Shows self.old.matching self.old.old_program self.old.new_program target self.new.old_state self.new.new_state a b }
+        ensures at_once { 0 < looks → IsToldAtOnce self.old.matching self.old.old_program self.old.new_program target → result ≡ Same }
+        ensures none { looks ≡ 0 → result ≡ Unsettled }
+        ensures same { JudgesTheSame self.old self.new }
+    {
+        let question = AlikeQuestion {
+            old: self.old_program,
+            new: self.new_program,
+            old_writers: &self.old_writers,
+            new_writers: &self.new_writers,
+            matching: self.matching,
+            target,
+        };
+        if is_same(question, &self.nothing, &mut self.buffers, looks) {
+            return Verdict::Same;
+        }
+        let nothing = &self.nothing;
+        match find(question, nothing, &mut self.buffers, &mut self.tried, looks) {
+            Some(ends) => Verdict::Differs {
+                old: ends.of_old,
+                new: ends.of_new,
+            },
+            None => Verdict::Unsettled,
+        }
+    }
+}

@@ -1,0 +1,182 @@
+//! The search for two states that agree and of which one scan of each leaves the target different.
+
+ghost use Rattle.std.specs.Prelude.{◌≡◌, ◌≤◌, IfSome, IsNone};
+ghost use Rattle.diff_cases.specs.Buffers.{AreAlikeBuffers};
+ghost use Rattle.diff_verdicts.specs.Judging.{AreTried};
+ghost use Rattle.diff_verdicts.specs.Verdicts.{Shows};
+
+use crate::candidate::make;
+use crate::checking::{Ends, Tried, check};
+use crate::content::Form;
+use diff_cases::choosing::next_joint;
+use diff_cases::looking::look;
+use diff_cases::partners::are_of_one_kind;
+use diff_cases::pinning::{pin_answer_in, pin_in};
+use diff_cases::{
+    AlikeBuffers, AlikeQuestion, Joint, JointInstances, JointPoint, Likeness, Target,
+};
+use invariant_cases::Answer;
+use scan_signals::Tri;
+
+/// What was found, and how many looks are left.
+#[derive(Clone, Copy)]
+pub(crate) struct Attempt {
+    pub found: Option<Ends>,
+    pub looks: u32,
+}
+
+/// The cases, in the order in which they are tried: points are ON or OFF, and instances may also answer what their inputs are.
+const CASES: [Answer; 3] = [Answer::On, Answer::Off, Answer::Input];
+
+/// How instances of one kind with different presets are tried.
+const FORMS: [Form; 3] = [Form::Answering, Form::Reached, Form::NextTo];
+
+/// Whether instances are asked of that have different presets, so that equal steps may leave them different.
+fn have_other_presets(question: AlikeQuestion<'_>) -> bool {
+    match question.target {
+        Target::Contents(pair) => !are_of_one_kind(question.old, question.new, pair),
+        Target::Variable(_) | Target::Memory(_) => false,
+    }
+}
+
+/// Gives points a value in both programs.
+fn pin_points(
+    question: AlikeQuestion<'_>,
+    points: JointPoint,
+    value: Tri,
+    buffers: &mut AlikeBuffers,
+)
+    requires { AreAlikeBuffers question.old.now question.new.now buffers.old }
+    ensures { AreAlikeBuffers question.entry.old.now question.entry.new.now buffers.new }
+{
+    pin_in(points.old, value, &mut buffers.of_old.case);
+    pin_in(points.new, value, &mut buffers.of_new.case);
+}
+
+/// Says what instances answer in both programs.
+fn pin_answers(
+    question: AlikeQuestion<'_>,
+    instances: JointInstances,
+    answer: Answer,
+    buffers: &mut AlikeBuffers,
+)
+    requires { AreAlikeBuffers question.old.now question.new.now buffers.old }
+    ensures { AreAlikeBuffers question.entry.old.now question.entry.new.now buffers.new }
+{
+    pin_answer_in(instances.old, answer, &mut buffers.of_old.case);
+    pin_answer_in(instances.new, answer, &mut buffers.of_new.case);
+}
+
+/// Takes a case, where there is that one, or leaves open what it is made of.
+fn take(
+    question: AlikeQuestion<'_>,
+    joint: Joint,
+    answer: Answer,
+    buffers: &mut AlikeBuffers,
+) -> bool
+    requires { AreAlikeBuffers question.old.now question.new.now buffers.old }
+    ensures { AreAlikeBuffers question.entry.old.now question.entry.new.now buffers.new }
+{
+    match (joint, answer) {
+        (Joint::Instances(instances), _) => pin_answers(question, instances, answer, buffers),
+        (Joint::Points(points), Answer::On) => pin_points(question, points, Tri::On, buffers),
+        (Joint::Points(points), Answer::Off) => pin_points(question, points, Tri::Off, buffers),
+        (Joint::Points(points), Answer::Open) => pin_points(question, points, Tri::Unsure, buffers),
+        (Joint::Points(_), Answer::Input) => return false,
+    }
+    true
+}
+
+/// Tries states that the case allows.
+fn try_forms(question: AlikeQuestion<'_>, buffers: &AlikeBuffers, tried: &mut Tried) -> Option<Ends>
+    requires { AreTried question.old.now question.new.now tried.old }
+    ensures shown { IfSome result (λ ends. Shows question.entry.matching.now question.entry.old.now question.entry.new.now question.entry.target
+        tried.new.old_state tried.new.new_state ends.of_old ends.of_new) }
+    ensures tried { AreTried question.entry.old.now question.entry.new.now tried.new }
+{
+    for number in 0..FORMS.len() {
+        make(question, FORMS[number], buffers, tried);
+        let found = check(question, tried);
+        if found.is_some() {
+            return found;
+        }
+    }
+    None
+}
+
+/// Tries to find two states that agree and that show a difference, among those that the case allows: by further cases, and by at most so many
+/// looks, each a scan of each program. What is found is checked as it stands.
+#[cycle(seeking)]
+pub(crate) fn seek(
+    question: AlikeQuestion<'_>,
+    buffers: &mut AlikeBuffers,
+    tried: &mut Tried,
+    looks: u32,
+) -> Attempt
+    requires buffers { AreAlikeBuffers question.old.now question.new.now buffers.old }
+    requires tried { AreTried question.old.now question.new.now tried.old }
+    ensures shown { IfSome result.found (λ ends. Shows question.entry.matching.now question.entry.old.now question.entry.new.now question.entry.target
+        tried.new.old_state tried.new.new_state ends.of_old ends.of_new) }
+    ensures none { looks ≡ 0 → IsNone result.found }
+    ensures looks { result.looks ≤ looks }
+    ensures buffers { AreAlikeBuffers question.entry.old.now question.entry.new.now buffers.new }
+    ensures tried { AreTried question.entry.old.now question.entry.new.now tried.new }
+{
+    if looks == 0 {
+        return Attempt {
+            found: None,
+            looks: 0,
+        };
+    }
+    let left = looks - 1;
+    let likeness = look(question, buffers);
+    if likeness == Likeness::Open {
+        if let Some(joint) = next_joint(question, buffers) {
+            return by_cases(question, joint, buffers, tried, left);
+        }
+    }
+    if likeness == Likeness::Alike && !have_other_presets(question) {
+        return Attempt {
+            found: None,
+            looks: left,
+        };
+    }
+    Attempt {
+        found: try_forms(question, buffers, tried),
+        looks: left,
+    }
+}
+
+/// The same in each case.
+#[cycle(seeking)]
+fn by_cases(
+    question: AlikeQuestion<'_>,
+    joint: Joint,
+    buffers: &mut AlikeBuffers,
+    tried: &mut Tried,
+    looks: u32,
+) -> Attempt
+    requires buffers { AreAlikeBuffers question.old.now question.new.now buffers.old }
+    requires tried { AreTried question.old.now question.new.now tried.old }
+    ensures shown { IfSome result.found (λ ends. Shows question.entry.matching.now question.entry.old.now question.entry.new.now question.entry.target
+        tried.new.old_state tried.new.new_state ends.of_old ends.of_new) }
+    ensures looks { result.looks ≤ looks }
+    ensures buffers { AreAlikeBuffers question.entry.old.now question.entry.new.now buffers.new }
+    ensures tried { AreTried question.entry.old.now question.entry.new.now tried.new }
+{
+    let mut left = looks;
+    for case in 0..CASES.len() {
+        if take(question, joint, CASES[case], buffers) {
+            let attempt = seek(question, buffers, tried, left);
+            if attempt.found.is_some() {
+                return attempt;
+            }
+            left = attempt.looks;
+        }
+    }
+    take(question, joint, Answer::Open, buffers);
+    Attempt {
+        found: None,
+        looks: left,
+    }
+}

@@ -1,0 +1,9 @@
+//! The writing of what is found of two programs.
+#![tactic(auto)]
+
+mod names;
+mod rows;
+mod value;
+mod write;
+
+pub use write::write_findings;
