@@ -209,6 +209,21 @@ def reached(program, runs):
               f"{most:8}  {name} {slowest * 1e3:.2f} ms, {said.strip()}")
 
 
+# two versions of the stations: one with itself, and one without a contact; and what must come out, but for what isn't settled
+VERSIONS = [("with itself", "three_stations.ld", (46, 0)), ("without an overload contact", "changed/three_stations.ld", (25, 19))]
+
+
+def judged(program, runs):
+    """Verdicts on all names of two versions."""
+    print(f"{'two versions of the stations':34}{'ms':>10}{'same':>6}{'differ':>8}{'open':>6}")
+    for name, file, due in VERSIONS:
+        seconds, _, said = least([program, "diff", *(str(HERE / "circuits" / each) for each in ("three_stations.ld", file))], runs)
+        same, different, unsettled = map(int, said.split()[1:6:2])
+        print(f"{name:34}{seconds * 1e3:10.2f}{same:6}{different:8}{unsettled:6}")
+        if (same, different) != due:
+            wrong(f"{name}: {said.strip()!r}")
+
+
 def resident(command):
     """How many bytes of memory a process takes at most, and how many states its search for a run keeps."""
     with subprocess.Popen(command, stdin=subprocess.DEVNULL, stdout=subprocess.DEVNULL, stderr=subprocess.PIPE) as process:
@@ -341,6 +356,7 @@ def main():
     held(program, runs)
     possible(program, runs)
     reached(program, runs)
+    judged(program, runs)
     memory_of_states(program)
     for name, text in TEXTS:
         with tempfile.NamedTemporaryFile() as file:

@@ -59,7 +59,7 @@ def requests(text, dice):
     listed = inputs[:MOST_INPUTS]
     rows = [f"{100 * number}," + ",".join(str(dice.randint(0, 1)) for _ in inputs) for number in range(40)]
     stimulus = "\n".join([",".join(["moment", *inputs]), *rows]) + "\n"
-    asked = [["uses", "t.ld"], ["never", "t.ld"], ["never", "--pairs", "t.ld"], ["sim", "t.ld", "s.csv"], ["sim", "--watch-all", "t.ld", "s.csv"]]
+    asked = [["uses", "t.ld"], ["never", "t.ld"], ["never", "--pairs", "t.ld"], ["diff", "t.ld", "t.ld"], ["sim", "t.ld", "s.csv"], ["sim", "--watch-all", "t.ld", "s.csv"]]
     for coil in coils:
         asked += [
             ["causes", "--limit", "99", "t.ld", coil, *listed],

@@ -61,6 +61,7 @@ REQUESTS = (
     (("sim", "--state", "running.csv", "--save", "saved.csv", "motor.ld", "long.csv"), ("fault V9\n", "fault X7\n")),
     (("diff", "--state", "running.csv", "motor.ld", "motor.ld", "Motor", "Start", "Stop"), BOTH),
     (("diff", "--grouped", "--all-inputs", "motor.ld", "motor.ld", "Motor"), BOTH),
+    (("diff", "motor.ld", "counter.ld"), ("fault old V9\n", "fault new V9\n", "fault X7\n")),
     (("reach", "--state", "running.csv", "motor.ld", "Motor", "Start"), ("fault V9\n", "fault X7\n")),
     (("reach", "rhythm.ld", "Y"), ("fault V9\n", "fault X7\n")),
     (("reach", "--every", "100", "rhythm.ld", "Y"), ("fault V9\n", "fault X7\n")),

@@ -196,6 +196,7 @@ SPECIAL = {
     "words/help/check": help_is_printed("check", "--help"),
     "words/help/reach": help_is_printed("reach", "--help"),
     "words/help/diff": help_is_printed("diff", "--help"),
+    "diff/verdicts-on-a-full-device": on_a_stream(["diff", "motor.ld", "motor.ld"], "stdout", full_device, (None, b"fault X6\n", 1)),
     "diff/on-a-full-device": on_a_stream(["diff", "motor.ld", "motor.ld", "Motor"], "stdout", full_device, (None, b"fault X6\n", 1)),
     "aliases/in-help": aliases_in_help,
     "words/help/import": help_is_printed("import", "--help"),
