@@ -3,6 +3,5 @@ mod Claims
 mod Covering
 mod Given
 pub mod Rows
-pub mod Running
 mod Words
 mod GroupJudging

@@ -1,6 +1,5 @@
 pub mod Numbers
 pub mod Possible
-pub mod Reached
 pub mod Searching
 pub mod Cursor
 pub mod Judged

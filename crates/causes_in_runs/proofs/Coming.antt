@@ -20,12 +20,12 @@ use Rattle.invariant_sets.specs.declared.staying.Staying.{Staying}
 use Rattle.invariant_sets.proofs.ForEver.{begun, begun_apart, holds_begun, scan_begun, standing_holds}
 use Rattle.causes_any_state.specs.Numbers.{HasBits, bit_above}
 use Rattle.causes_any_state.specs.Possible.{AreStatesOf, IsBefore, IsPossible, MayBeOf, MayStay}
-use Rattle.causes_any_state.specs.Reached.{reached}
+use Rattle.invariant_runs.specs.Reached.{reached}
 use Rattle.causes_any_state.specs.declared.before.Before.{Before}
 use Rattle.causes_any_state.specs.declared.before.Before.TheVariants.{Any}
 use Rattle.causes_any_state.specs.declared.states.States.{States}
 use Rattle.causes_any_state.proofs.Asking.{cause_is, none_open}
-use Rattle.causes_any_state.proofs.Running.{next, next_fits, next_stands}
+use Rattle.invariant_runs.proofs.Running.{next, next_fits, next_stands}
 use Rattle.reach_runs.specs.Asking.{is_so}
 use Rattle.reach_runs.specs.declared.target.Literal.{Literal}
 use Rattle.causes_in_runs.specs.Leading.{RunsLead}

@@ -2,7 +2,7 @@
 use Rattle.std.proofs.Common.{refl, None, Some}
 use Rattle.diagram_program.specs.Program.{Drawing}
 use Rattle.scan_cycle.specs.Standing.{Standing}
-use Rattle.causes_any_state.specs.Reached.{AreReached}
+use Rattle.invariant_runs.specs.Reached.{AreReached}
 use Rattle.causes_any_state.specs.declared.before.Before.TheVariants.{Any}
 use Rattle.causes_in_runs.specs.Rows.{AllCount}
 use Rattle.invariant_sets.specs.declared.staying.Staying.{Staying}

@@ -8,7 +8,7 @@ use Rattle.scan_cycle.specs.Runs.{IsRun, OneScan}
 use Rattle.scan_cycle.specs.Standing.{Standing}
 use Rattle.causes_query.specs.Assignment.{bit_of, input_variables}
 use Rattle.causes_any_state.specs.Possible.{IsPossible, MayStay}
-use Rattle.causes_any_state.specs.Reached.{reached}
+use Rattle.invariant_runs.specs.Reached.{reached}
 use Rattle.causes_any_state.specs.declared.before.Before.TheVariants.{Any}
 use Rattle.causes_any_state.specs.declared.states.States.{States}
 use Rattle.reach_runs.specs.Asking.{NeverOn, RunQuestion, SwitchesOn}

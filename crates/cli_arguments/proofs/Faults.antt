@@ -5,12 +5,9 @@ use Rattle.std.proofs.lemmas.Bool.{both_ways}
 use Rattle.std.proofs.lemmas.Slice.Eq.{bytes_eq-Decides}
 use Rattle.clap.specs.Words.{Row, Text, all_of, first_of}
 use Rattle.cli_options.specs.Pages.{is_fault_code}
-use Rattle.cli_arguments.specs.Asking.{Asks, AsksNone, HasCoil, HasControl, HasDiffForm, HasEvery, HasExcluded, HasFlag, HasForm, HasGrouping, HasInputs, HasLasting, HasNoTask, HasNumber, HasOption, HasOrder, HasPace, HasRuns, HasScans, HasSwitch, HasWatched, IsNamed, IsOfOneState, IsPlain, IsSingle, IsTable, IsWhole, MayGroup, MayHaveLimit, NamesCauses, NamesList, NamesTrace, input_texts, inputs_for}
-use Rattle.cli_arguments.specs.Parts.{HasNoBounds, HasPrograms, IsOfAnyState, IsOfOneScan, IsOfRecords, IsUncut, MayLast, NamesNoDiff, NamesNoEnd, NamesNoRuns, NamesNoStates, NamesNoVerdicts, NamesScan, Plays}
+use Rattle.cli_arguments.specs.Asking.{Asks, AsksNone, HasCoil, HasControl, HasEvery, HasExcluded, HasFlag, HasForm, HasGrouping, HasInputs, HasLasting, HasNoTask, HasNumber, HasOption, HasOrder, HasPace, HasRuns, HasScans, HasSwitch, HasWatched, IsNamed, IsOfOneState, IsPlain, IsSingle, IsTable, IsWhole, MayGroup, MayHaveLimit, NamesCauses, NamesList, NamesTrace, input_texts, inputs_for}
+use Rattle.cli_arguments.specs.Parts.{IsOfAnyState, IsOfOneScan, IsOfRecords, IsUncut, MayLast, NamesNoDiff, NamesNoEnd, NamesNoRuns, NamesNoStates, NamesNoVerdicts, NamesScan, Plays}
 use Rattle.cli_arguments.specs.Faults.{UsageWhere}
-use Rattle.cli_arguments.specs.declared.comparing.Programs.{Programs}
-use Rattle.cli_arguments.specs.declared.request.DiffForm.{DiffForm}
-use Rattle.cli_arguments.specs.declared.request.DiffForm.TheVariants as diff
 use Rattle.cli_arguments.specs.declared.request.GroupFormat.{GroupFormat}
 use Rattle.cli_arguments.specs.declared.request.GroupFormat.TheVariants.{Statement, Table, Terms}
 use Rattle.cli_arguments.specs.declared.request.InputOrder.{InputOrder}
@@ -206,7 +203,7 @@ only_never rows never =
     by_subcommand (codes "never") rows (apart (codes "never") (codes "check") refl) (apart (codes "never") (codes "causes") refl) (apart (codes "never") (codes "show") refl)
     (apart (codes "never") (codes "sim") refl) (apart (codes "never") (codes "uses") refl) (λ _. never) (apart (codes "never") (codes "reach") refl) (apart (codes "never") (codes "import") refl)
 
-lasts : (rows : List Row) (scans every : ℕ) → HasScans scans every rows → (o : Option Lasting) × MayLast o rows
+pub lasts : (rows : List Row) (scans every : ℕ) → HasScans scans every rows → (o : Option Lasting) × MayLast o rows
 lasts rows scans every (inl h) = (Some (Count scans), h)
 lasts rows scans every (inr h) = (Some (Until h.1.0), (h.0, h.1.1))
 
@@ -244,7 +241,7 @@ pub no_causes_of_list : (rows : List Row) → IsOfOneState rows → (HasFlag (co
 no_causes_of_list rows one_state named none =
     only_of_one_state rows one_state named (λ list after upto h. none list h.3) (λ list scans every grouped h. none list h.7) (λ list grouping h. none list h.9)
 
-given_at_all : (rows : List Row) (l : Lasting) → HasLasting l rows → HasNumber (codes "scans") rows None → HasNumber (codes "for") rows None → ⊥
+pub given_at_all : (rows : List Row) (l : Lasting) → HasLasting l rows → HasNumber (codes "scans") rows None → HasNumber (codes "for") rows None → ⊥
 given_at_all rows (Count n) h none no_time = let given = h.0.1 in cc
 given_at_all rows (Until time) h none no_time = let given = h.1.1 in cc
 
@@ -599,16 +596,6 @@ watches_all rows false flag set h = cc
 
 -- ---- comparisons
 
-pub no_diff_groups : (rows : List Row) → HasFlag (codes "grouped") rows → (HasNoBounds rows → ⊥) → (f : DiffForm) → HasDiffForm rows f → ⊥
-no_diff_groups rows grouped bounded (diff.Rows after upto) h = h.0.0 grouped
-no_diff_groups rows grouped bounded (diff.Groups g) h = bounded (h.2, h.3)
-
-pub no_diff_of_inputs : (rows : List Row) → ((all : Bool) (names : List Text) → HasInputs rows all names → ⊥) → NamesNoDiff rows
-no_diff_of_inputs rows none r h = none r.all_inputs (map string_bytes r.inputs.items) h.9
-
-pub no_diff_of_programs : (rows : List Row) → ((p : Programs) → HasPrograms rows p → ⊥) → NamesNoDiff rows
-no_diff_of_programs rows none r h = none (record { old = r.old; new = r.new; state = r.state; new_state = r.new_state }) (h.6, h.7, h.0, h.1)
-
 -- The subcommand that compares makes no request.
 compares_alone : (rows : List Row) → AsksNone (codes "diff") rows
 compares_alone rows = by_subcommand (codes "diff") rows (apart (codes "diff") (codes "check") refl) (apart (codes "diff") (codes "causes") refl) (apart (codes "diff") (codes "show") refl)
@@ -621,15 +608,3 @@ no_comparison rows none nothing (PerformAll all) h = compares_alone rows all.lin
 no_comparison rows none nothing (Compare r) h = none r h.1
 no_comparison rows none nothing (Judge r) h = nothing r h.1
 no_comparison rows none nothing (Explain names) h = apart (codes "diff") (codes "explain") refl h.0
-
-pub no_diff_without_coil : (rows : List Row) → HasOption (codes "coil") rows None → NamesNoDiff rows
-no_diff_without_coil rows coil r h = let given = h.8 in cc
-
-pub no_diff_with_looks : (rows : List Row) → (HasNumber (codes "looks") rows None → ⊥) → NamesNoDiff rows
-no_diff_with_looks rows looks r h = looks h.12
-
-pub no_verdicts_with_coil : (rows : List Row) → (HasOption (codes "coil") rows None → ⊥) → NamesNoVerdicts rows
-no_verdicts_with_coil rows coil r h = coil h.0
-
-pub no_verdicts_of_forms : (rows : List Row) → (HasForm Table rows → HasOrder Given rows → ⊥) → NamesNoVerdicts rows
-no_verdicts_of_forms rows forms r h = forms h.3 h.4

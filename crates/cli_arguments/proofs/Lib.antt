@@ -1,2 +1,3 @@
 mod Numbers
 mod Faults
+mod Differing

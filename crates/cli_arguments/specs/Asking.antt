@@ -340,13 +340,20 @@ Asks name rows (Import opened control_on file hal) = (name ≡ codes "import")
     × HasText (codes "file") rows (string_bytes file)
     × HasOption (codes "hal") rows (option_map string_bytes hal)
 
--- How differences are written: each has a row of its own, from the number that it begins after to the one that it ends at; or they are in groups, which have no numbers.
+-- The list has no part that begins or ends at a number, and nothing tells how far it is.
+abbrev pub HasNoPart : List Row → Type 0
+HasNoPart rows = HasNumber (codes "after") rows None × HasNumber (codes "upto") rows None × (HasFlag (codes "progress") rows → ⊥)
+
+-- Which differences, and how they are written: in one scan a row for each, from the number that the list begins after to the one that it ends at; over
+-- several scans a row for each; or in groups, which have no numbers.
 abbrev pub HasDiffForm : List Row → DiffForm → Type 0
-HasDiffForm rows (diff.Rows after upto) = IsTable rows × HasNumber (codes "after") rows after × HasNumber (codes "upto") rows upto
-HasDiffForm rows (diff.Groups g) = HasFlag (codes "grouped") rows
-    × HasGrouping rows g
-    × HasNumber (codes "after") rows None
-    × HasNumber (codes "upto") rows None
+HasDiffForm rows (diff.Rows after upto) = IsTable rows × IsSingle rows × HasNumber (codes "after") rows after × HasNumber (codes "upto") rows upto
+HasDiffForm rows (diff.Held scans every) = IsTable rows × HasScans scans every rows × HasEvery every rows × HasNoPart rows
+HasDiffForm rows (diff.Groups g) = HasFlag (codes "grouped") rows × IsSingle rows × HasGrouping rows g × HasNoPart rows
+
+-- Nothing is asked of all states: not how long a search is, which states count, or where states are saved.
+abbrev pub NamesNoSearch : List Row → Type 0
+NamesNoSearch rows = HasNumber (codes "looks") rows None × (HasFlag (codes "reachable") rows → ⊥) × HasOption (codes "save") rows None
 
 -- what a comparison of what two programs do with a coil names
 abbrev pub NamesDiff : List Row → DiffRequest → Type 0
@@ -362,26 +369,26 @@ NamesDiff rows r = HasOption (codes "state") rows (option_map string_bytes r.sta
     × HasInputs rows r.all_inputs (map string_bytes r.inputs.items)
     × HasSwitch (codes "aliases") rows r.aliases
     × HasSwitch (codes "why") rows r.why
-    × HasNumber (codes "looks") rows None
+    × NamesNoSearch rows
 
--- Nothing is asked of one scan: no state, no moment, and no part or form of a list.
+-- Nothing is asked of given scans: no state, no moment, not how many scans there are, and no part or form of a list.
 abbrev pub NamesNoScan : List Row → Type 0
 NamesNoScan rows = HasOption (codes "state") rows None
     × HasOption (codes "new-state") rows None
     × HasNumber (codes "at") rows None
-    × HasNumber (codes "after") rows None
-    × HasNumber (codes "upto") rows None
     × HasNumber (codes "limit") rows None
-    × (HasFlag (codes "grouped") rows → ⊥)
+    × IsSingle rows
+    × HasNoPart rows
+    × IsTable rows
 
 -- what a comparison of two programs name by name names: no coil, no inputs
 abbrev pub NamesVerdicts : List Row → VerdictRequest → Type 0
 NamesVerdicts rows r = HasOption (codes "coil") rows None
     × HasInputs rows false []
     × NamesNoScan rows
-    × HasForm Table rows
-    × HasOrder Given rows
     × HasNumber (codes "looks") rows r.looks
+    × HasSwitch (codes "reachable") rows r.reachable
+    × HasOption (codes "save") rows (option_map string_bytes r.save)
     × HasSwitch (codes "quiet") rows r.quiet
     × HasText (codes "old") rows (string_bytes r.old)
     × HasText (codes "new") rows (string_bytes r.new)

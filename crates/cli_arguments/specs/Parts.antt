@@ -1,7 +1,7 @@
 -- What is read of the parts of a request.
 use Rattle.std.specs.Prelude.{false, List, Option, None, Some, map, codes, string_bytes, option_map, []}
 use Rattle.clap.specs.Words.{Row}
-use Rattle.cli_arguments.specs.Asking.{HasFlag, HasForm, HasInputs, HasLasting, HasNumber, HasOption, HasOrder, HasText, NamesDiff, NamesVerdicts}
+use Rattle.cli_arguments.specs.Asking.{HasFlag, HasInputs, HasLasting, HasNumber, HasOption, HasText, NamesDiff, NamesVerdicts}
 use Rattle.cli_arguments.specs.declared.comparing.Programs.{Programs}
 use Rattle.cli_arguments.specs.declared.lasting.Lasting.{Lasting}
 use Rattle.cli_arguments.specs.declared.parts.NamedScan.{NamedScan}
@@ -76,9 +76,14 @@ HasPrograms rows p = HasText (codes "old") rows (string_bytes p.old)
     × HasOption (codes "state") rows (option_map string_bytes p.state)
     × HasOption (codes "new-state") rows (option_map string_bytes p.new_state)
 
--- No number is given to begin after, and none to end at.
-abbrev pub HasNoBounds : List Row → Type 0
-HasNoBounds rows = HasNumber (codes "after") rows None × HasNumber (codes "upto") rows None
+-- Nothing is asked of given scans, and there are no groups.
+abbrev pub NamesNoScans : List Row → Type 0
+NamesNoScans rows = HasOption (codes "state") rows None
+    × HasOption (codes "new-state") rows None
+    × HasNumber (codes "at") rows None
+    × HasNumber (codes "limit") rows None
+    × IsOfOneScan rows
+    × (HasFlag (codes "grouped") rows → ⊥)
 
 -- no comparison is named
 abbrev pub NamesNoDiff : List Row → Type 0

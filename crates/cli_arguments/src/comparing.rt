@@ -2,13 +2,14 @@
 
 ghost use Rattle.std.specs.Prelude.{◌≡◌, true, false, codes, IfOk, IfErr, None, Some};
 ghost use Rattle.clap.specs.Words.{found_of, rows_of};
-ghost use Rattle.cli_arguments.specs.Asking.{HasDiffForm, HasFlag, HasNoTask, HasNumber, HasOption, HasTask, NamesDiff, NamesNoScan, NamesVerdicts};
-ghost use Rattle.cli_arguments.specs.Parts.{HasNoBounds, HasPrograms, NamesNoDiff, NamesNoVerdicts};
+ghost use Rattle.cli_arguments.specs.Asking.{HasDiffForm, HasFlag, HasLasting, HasNoTask, HasOption, HasTask, IsTable, NamesDiff, NamesNoSearch, NamesVerdicts};
+ghost use Rattle.cli_arguments.specs.Parts.{HasPrograms, MayLast, NamesNoDiff, NamesNoScans, NamesNoVerdicts};
 ghost use Rattle.cli_arguments.specs.Faults.{UsageWhere};
 
 use crate::found::{is_given, is_set, number, optional, text};
 use crate::grouping::{grouping_of, refuse_grouping};
-use crate::parts::{InputNames, inputs_of};
+use crate::lasting::{Lasting, count, lasting_of};
+use crate::parts::{InputNames, every_of, inputs_of, is_counted, is_part};
 use crate::request::{DiffForm, DiffRequest, Task, VerdictRequest, WordFault};
 use crate::showing::lists_inputs;
 use clap::ArgMatches;
@@ -40,7 +41,7 @@ fn programs_of(alloc: Global, found: &ArgMatches<'_>) -> Result<Programs, WordFa
     })
 }
 
-/// How the differences are written: a row for each, or groups, which have no numbers.
+/// Which differences, and how they are written.
 fn diff_form_of(found: &ArgMatches<'_>) -> Result<DiffForm, WordFault>
     ensures ok { IfOk result (HasDiffForm (rows_of (found_of found.now))) }
     ensures err { IfErr result (UsageWhere ((f : DiffForm) → HasDiffForm (rows_of (found_of found.now)) f → ⊥)) }
@@ -49,17 +50,43 @@ fn diff_form_of(found: &ArgMatches<'_>) -> Result<DiffForm, WordFault>
         return diff_groups_of(found);
     }
     refuse_grouping(found)?;
+    match lasting_of(found)? {
+        Some(lasting) => diff_held_of(found, lasting),
+        None => diff_rows_of(found),
+    }
+}
+
+/// The rows of one scan that are asked for.
+fn diff_rows_of(found: &ArgMatches<'_>) -> Result<DiffForm, WordFault>
+    requires table { IsTable (rows_of (found_of found.now)) }
+    requires lasting { MayLast None (rows_of (found_of found.now)) }
+    ensures ok { IfOk result (HasDiffForm (rows_of (found_of found.now))) }
+    ensures err { IfErr result (UsageWhere ((f : DiffForm) → HasDiffForm (rows_of (found_of found.now)) f → ⊥)) }
+{
+    // One scan has none that follows.
+    if is_given(found, "every") {
+        return Err(WordFault::Usage);
+    }
     let after = number(found, "after")?;
     let upto = number(found, "upto")?;
     Ok(DiffForm::Rows { after, upto })
 }
 
-/// Whether a number is given to begin after, or to end at.
-fn names_number(found: &ArgMatches<'_>) -> bool
-    ensures none { result ≡ false → HasNoBounds (rows_of (found_of found.now)) }
-    ensures some { result ≡ true → HasNoBounds (rows_of (found_of found.now)) → ⊥ }
+/// The rows over several scans that are asked for.
+fn diff_held_of(found: &ArgMatches<'_>, lasting: Lasting) -> Result<DiffForm, WordFault>
+    requires table { IsTable (rows_of (found_of found.now)) }
+    requires lasting { HasLasting lasting (rows_of (found_of found.now)) }
+    ensures ok { IfOk result (HasDiffForm (rows_of (found_of found.now))) }
+    ensures err { IfErr result (UsageWhere ((f : DiffForm) → HasDiffForm (rows_of (found_of found.now)) f → ⊥)) }
 {
-    is_given(found, "after") || is_given(found, "upto")
+    if is_part(found) {
+        return Err(WordFault::Usage);
+    }
+    let every = every_of(found)?;
+    Ok(DiffForm::Held {
+        scans: count(lasting, every),
+        every,
+    })
 }
 
 /// The groups that are asked for.
@@ -68,7 +95,8 @@ fn diff_groups_of(found: &ArgMatches<'_>) -> Result<DiffForm, WordFault>
     ensures ok { IfOk result (HasDiffForm (rows_of (found_of found.now))) }
     ensures err { IfErr result (UsageWhere ((f : DiffForm) → HasDiffForm (rows_of (found_of found.now)) f → ⊥)) }
 {
-    if names_number(found) {
+    // A group has no number, and is one of one scan.
+    if is_counted(found) {
         return Err(WordFault::Usage);
     }
     let grouping = grouping_of(found)?;
@@ -77,7 +105,7 @@ fn diff_groups_of(found: &ArgMatches<'_>) -> Result<DiffForm, WordFault>
 
 /// What is compared of two programs.
 fn diff_request(alloc: Global, found: &ArgMatches<'_>) -> Result<DiffRequest, WordFault>
-    requires { HasNumber (codes "looks") (rows_of (found_of found.now)) None }
+    requires { NamesNoSearch (rows_of (found_of found.now)) }
     ensures ok { IfOk result (NamesDiff (rows_of (found_of found.now))) }
     ensures err { IfErr result (UsageWhere (NamesNoDiff (rows_of (found_of found.now)))) }
 {
@@ -109,18 +137,25 @@ fn diff_request(alloc: Global, found: &ArgMatches<'_>) -> Result<DiffRequest, Wo
     })
 }
 
-/// Whether one scan is asked of, or a part or a form of a list.
+/// Whether given scans are asked of, or a part of a list.
 fn names_scan(found: &ArgMatches<'_>) -> bool
-    ensures none { result ≡ false → NamesNoScan (rows_of (found_of found.now)) }
-    ensures some { result ≡ true → NamesNoScan (rows_of (found_of found.now)) → ⊥ }
+    ensures none { result ≡ false → NamesNoScans (rows_of (found_of found.now)) }
+    ensures some { result ≡ true → NamesNoScans (rows_of (found_of found.now)) → ⊥ }
 {
     is_given(found, "state")
         || is_given(found, "new-state")
         || is_given(found, "at")
-        || is_given(found, "after")
-        || is_given(found, "upto")
         || is_given(found, "limit")
+        || is_counted(found)
         || is_set(found, "grouped")
+}
+
+/// Whether all states are asked of.
+fn names_search(found: &ArgMatches<'_>) -> bool
+    ensures none { result ≡ false → NamesNoSearch (rows_of (found_of found.now)) }
+    ensures some { result ≡ true → NamesNoSearch (rows_of (found_of found.now)) → ⊥ }
+{
+    is_given(found, "looks") || is_set(found, "reachable") || is_given(found, "save")
 }
 
 /// What is judged of two programs, name by name.
@@ -135,10 +170,13 @@ fn verdict_request(alloc: Global, found: &ArgMatches<'_>) -> Result<VerdictReque
     }
     refuse_grouping(found)?;
     let looks = number(found, "looks")?;
+    let save = optional(alloc, found, "save")?;
     let old = text(alloc, found, "old")?;
     let new = text(alloc, found, "new")?;
     Ok(VerdictRequest {
         looks,
+        reachable: is_set(found, "reachable"),
+        save,
         quiet: is_set(found, "quiet"),
         old,
         new,
@@ -165,8 +203,8 @@ fn coil_task(alloc: Global, found: &ArgMatches<'_>) -> Result<Task, WordFault>
     ensures ok { IfOk result (HasTask (codes "diff") (rows_of (found_of found.now))) }
     ensures err { IfErr result (UsageWhere (HasNoTask (codes "diff") (rows_of (found_of found.now)))) }
 {
-    // A list is complete, however many scans it takes.
-    if is_given(found, "looks") {
+    // A list is of one state of each program, and complete, however many scans it takes.
+    if names_search(found) {
         return Err(WordFault::Usage);
     }
     match diff_request(alloc, found) {

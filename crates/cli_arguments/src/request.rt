@@ -239,7 +239,7 @@ pub struct ReachRequest {
     pub inputs: Vec<String>,
 }
 
-/// How what two programs do differently is written.
+/// What two programs do differently, and how it is written.
 #[derive(Clone, Copy, Debug, PartialEq, Eq)]
 pub enum DiffForm {
     /// A row for each combination of the listed inputs.
@@ -248,6 +248,13 @@ pub enum DiffForm {
         after: Option<u64>,
         /// The number to end at; the last one where there is none.
         upto: Option<u64>,
+    },
+    /// A row for each combination that, held over several scans, first switches the coil on in another scan.
+    Held {
+        /// How many scans there are.
+        scans: u64,
+        /// The time from each scan to the next, in ms.
+        every: u64,
     },
     /// A row for each group.
     Groups(Grouping),
@@ -289,6 +296,10 @@ pub struct DiffRequest {
 pub struct VerdictRequest {
     /// How many scans of each program a verdict takes at most, where it is said.
     pub looks: Option<u64>,
+    /// Whether only states count in which it is so what stays so in each state that the programs reach.
+    pub reachable: bool,
+    /// The folder in which states are saved that show each difference, where there is one.
+    pub save: Option<String>,
     /// Whether the line of counts is left out.
     pub quiet: bool,
     /// The file of the program text before the change.

@@ -1,27 +1,41 @@
 -- The list of what two programs do differently, and what is counted of it.
 use Rattle.std.specs.Prelude.{◌≡◌, ◌+◌, ℕ, List, Option, None, Some, IfSome, length}
 use Rattle.causes_query.specs.Causes.{Question}
-use Rattle.causes_query.specs.Refusal.{refusal}
+use Rattle.scan_held.specs.declared.scans.Scans.{Scans}
 use Rattle.search_differences.specs.declared.sought.Sought.{Sought}
 use Rattle.search_differences.specs.declared.sought.Sought.TheVariants.{OldAlone, NewAlone}
 use Rattle.search_groups.specs.Groups.{Row, rows}
 use Rattle.diff_causes.specs.GroupCursor.{differences_in}
 use Rattle.diff_causes.specs.Differences.{differences_after, is_sought_difference}
 use Rattle.diff_causes.specs.declared.rows.Difference.{Difference}
+use Rattle.diff_held.specs.HeldDifferences.{held_differences}
+use Rattle.diff_held.specs.declared.row.HeldDifference.{HeldDifference}
 use Rattle.text_causes.specs.CauseText.{limited}
 use Rattle.text_differences.specs.DifferenceText.{difference_text, part}
 use Rattle.text_causes.specs.Limit.{limit_left}
 use Rattle.text_differences.specs.GroupText.{difference_group_text}
+use Rattle.text_held_differences.specs.HeldText.{held_difference_text}
 use Rattle.cli_arguments.specs.declared.request.DiffForm.{DiffForm}
-use Rattle.cli_arguments.specs.declared.request.DiffForm.TheVariants.{Rows, Groups}
+use Rattle.cli_arguments.specs.declared.request.DiffForm.TheVariants.{Rows, Held, Groups}
 use Rattle.cli_questions.specs.Ending.{Listing}
 use Rattle.cli_questions.specs.Forms.{form_on}
+use Rattle.cli_questions.specs.declared.counting.ListCounts.{ListCounts}
 use Rattle.cli_questions.specs.declared.counting.ListCounts.TheVariants as counts
-use Rattle.cli_diff.specs.Faults.{after_of, old_refusal}
+use Rattle.cli_diff.specs.Faults.{new_refusal, old_refusal, scans_of}
 
 -- the rows from a number on and up to another, or the first of them
 abbrev pub differences_for : Option ℕ → Option ℕ → Option ℕ → Question → Question → List Difference
 differences_for limit after upto old new = limited limit (part upto (differences_after after old new))
+
+abbrev pub rows_text : Option ℕ → Option ℕ → Option ℕ → Question → Question → List ℕ
+rows_text limit after upto old new = difference_text old.program old.listed (differences_for limit after upto old new)
+
+abbrev pub row_counts : Option ℕ → Option ℕ → Option ℕ → Question → Question → ListCounts
+row_counts limit after upto old new = counts.Rows (length (differences_for limit after upto old new))
+
+-- the rows over several scans, or the first of them
+abbrev pub held_for : Option ℕ → Scans → Question → Question → List HeldDifference
+held_for limit s old new = limited limit (held_differences old new s)
 
 -- the groups of the numbers that one program alone chooses
 abbrev pub groups_alone : Sought → Question → Question → List Row
@@ -36,8 +50,10 @@ new_groups limit old new = limited (limit_left limit (length (old_groups limit o
 
 abbrev pub HasText : DiffForm → Option ℕ → Question → Question → Listing
 HasText (Rows after upto) limit old new text c =
-    (text ≡ difference_text old.program old.listed (differences_for limit after upto old new))
-    × IfSome c (λ n. n ≡ counts.Rows (length (differences_for limit after upto old new)))
+    (text ≡ rows_text limit after upto old new) × IfSome c (λ n. n ≡ row_counts limit after upto old new)
+HasText (Held count every) limit old new text c =
+    (text ≡ held_difference_text old.program old.listed (held_for limit (scans_of count every) old new))
+    × IfSome c (λ n. n ≡ counts.Rows (length (held_for limit (scans_of count every) old new)))
 HasText (Groups g) limit old new text c =
     (text ≡ difference_group_text (form_on g.form old.coil) old.program old.listed (old_groups limit old new) (new_groups limit old new))
     × IfSome c (λ n. n ≡ counts.Differences (length (old_groups limit old new) + length (new_groups limit old new))
@@ -45,4 +61,4 @@ HasText (Groups g) limit old new text c =
 
 -- Neither question is refused, and this is the text of the list.
 abbrev pub DiffList : DiffForm → Option ℕ → Question → Question → Listing
-DiffList form limit old new text c = (old_refusal form old ≡ None) × (refusal new (after_of form) ≡ None) × HasText form limit old new text c
+DiffList form limit old new text c = (old_refusal form old ≡ None) × (new_refusal form new ≡ None) × HasText form limit old new text c

@@ -12,12 +12,14 @@ ghost use Rattle.cli_diff.specs.Listing.{DiffList};
 
 use crate::asking::{DiffQuery, read_query};
 use crate::grouping::write_groups;
+use crate::holding::write_held;
 use crate::listing::{Bounds, write_rows};
 use crate::sided::{SidedFault, report};
 use crate::texts::DiffTexts;
 use cli_arguments::{DiffForm, DiffRequest};
 use cli_questions::{ListCounts, put_counts};
 use io_text::Sink;
+use scan_held::Scans;
 use std::alloc::Global;
 
 /// Writes the list of what is asked in its form.
@@ -38,6 +40,13 @@ fn write_list<O: Sink>(
         DiffForm::Rows { after, upto } => {
             let bounds = Bounds { after, upto };
             write_rows(alloc, bounds, limit, asked, out)
+        }
+        DiffForm::Held { scans, every } => {
+            let scans = Scans {
+                count: scans,
+                every,
+            };
+            write_held(alloc, scans, limit, asked, out)
         }
         DiffForm::Groups(grouping) => write_groups(alloc, grouping, limit, asked, out),
     }

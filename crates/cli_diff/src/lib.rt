@@ -5,6 +5,7 @@ mod asking;
 mod comparing;
 mod files;
 mod grouping;
+mod holding;
 mod listing;
 mod sided;
 mod texts;

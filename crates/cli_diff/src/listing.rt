@@ -2,13 +2,12 @@
 
 ghost use Rattle.std.specs.Prelude.{◌≡◌, IfErr, IfOk, None, length};
 ghost use Rattle.scan_cycle.specs.Standing.{Fits};
-ghost use Rattle.causes_query.specs.Refusal.{refusal};
 ghost use Rattle.diff_causes.specs.Asked.{asked};
 ghost use Rattle.diff_causes.specs.Differences.{differences_after};
 ghost use Rattle.cli_arguments.specs.declared.request.DiffForm.TheVariants.{Rows};
 ghost use Rattle.cli_questions.specs.Query.{question_of};
 ghost use Rattle.cli_diff.specs.Ending.{WritesOf};
-ghost use Rattle.cli_diff.specs.Faults.{IsRefusedOf, bound_refusal, old_refusal};
+ghost use Rattle.cli_diff.specs.Faults.{IsRefusedOf, bound_refusal, new_refusal, old_refusal};
 ghost use Rattle.cli_diff.specs.Listing.{DiffList};
 
 use crate::asking::DiffQuery;
@@ -43,7 +42,7 @@ pub(crate) fn program_query<'a>(query: &'a ListQuery) -> ProgramQuery<'a>
 
 /// The first rule that is broken by what is asked of the old program with the number to end at, where there is one.
 fn bound_refusal(bounds: Bounds, asked: &ListQuery) -> Option<CauseFault>
-    ensures { result ≡ bound_refusal (Rows bounds.after bounds.upto) (question_of asked.now) }
+    ensures { result ≡ bound_refusal bounds.upto (question_of asked.now) }
 {
     match bounds.upto {
         Some(last) => refusal(
@@ -70,7 +69,7 @@ fn differences_of<'a>(
     ensures old { IfOk result (λ c. c.asked_old ≡ question_of asked.now.old) }
     ensures rest { IfOk result (λ c. c.rest ≡ differences_after bounds.after (question_of asked.now.old) (question_of asked.now.new)) }
     ensures old_accepted { IfOk result (λ _. old_refusal (Rows bounds.after bounds.upto) (question_of asked.now.old) ≡ None) }
-    ensures new_accepted { IfOk result (λ _. refusal (question_of asked.now.new) bounds.after ≡ None) }
+    ensures new_accepted { IfOk result (λ _. new_refusal (Rows bounds.after bounds.upto) (question_of asked.now.new) ≡ None) }
     ensures refused { IfErr result (λ e. IsRefusedOf (Rows bounds.after bounds.upto) (question_of asked.now.old) (question_of asked.now.new) e.side e.fault) }
 {
     if let Some(fault) = bound_refusal(bounds, &asked.old) {

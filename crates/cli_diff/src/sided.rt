@@ -3,12 +3,14 @@
 ghost use Rattle.std.specs.Prelude.{◌≡◌, None, Some};
 ghost use Rattle.cli_inputs.specs.Reports.{IsReportedBy};
 ghost use Rattle.cli_inputs.specs.Setting.{given_by};
-ghost use Rattle.cli_diff.specs.Faults.{given_of, refused};
+ghost use Rattle.cli_diff.specs.Faults.{given_of, held_fault, held_refused, refused};
 
 use crate::texts::DiffTexts;
 use cli_inputs::{ToolFault, report_by};
 use diff_causes::DifferenceFault;
+use diff_held::HeldDifferenceFault;
 use io_text::Sink;
+use scan_held::HeldFault;
 use search_differences::Side;
 
 /// What stops a comparison, and of which program it is; of a writer that failed it is of none.
@@ -46,6 +48,26 @@ pub(crate) fn refused(fault: DifferenceFault) -> SidedFault
     match fault {
         DifferenceFault::Old(fault) => of(Side::Old, ToolFault::Cause(fault)),
         DifferenceFault::New(fault) => of(Side::New, ToolFault::Cause(fault)),
+    }
+}
+
+/// The fault of a question over several scans.
+fn held_fault(fault: HeldFault) -> ToolFault
+    ensures { result ≡ held_fault fault }
+{
+    match fault {
+        HeldFault::Question(fault) => ToolFault::Cause(fault),
+        HeldFault::NoScans => ToolFault::NoScans,
+    }
+}
+
+/// The fault of a question over several scans, and of which program it is.
+pub(crate) fn held_refused(fault: HeldDifferenceFault) -> SidedFault
+    ensures { result ≡ held_refused fault }
+{
+    match fault {
+        HeldDifferenceFault::Old(fault) => of(Side::Old, held_fault(fault)),
+        HeldDifferenceFault::New(fault) => of(Side::New, held_fault(fault)),
     }
 }
 

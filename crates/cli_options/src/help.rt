@@ -86,15 +86,25 @@ pub(crate) const DIFF_AT_HELP: &str =
     "The moment of the scan of both, in ms; without it the one that each state stores";
 
 pub(crate) const DIFF_AFTER_HELP: &str =
-    "Lists the rows with a greater number than N only; not with --grouped";
+    "Lists the rows with a greater number than N only; not with --grouped, --scans or --for";
 
-pub(crate) const DIFF_UPTO_HELP: &str = "Ends the list at the number N; not with --grouped";
+pub(crate) const DIFF_UPTO_HELP: &str =
+    "Ends the list at the number N; not with --grouped, --scans or --for";
+
+pub(crate) const DIFF_SCANS_HELP: &str =
+    "Lists over N scans, at most 1000000, with the inputs held: each combination with which the first scan that leaves the coil ON is another one in OLD than in NEW, and both scans, - for none";
 
 pub(crate) const DIFF_COIL_HELP: &str =
     "A variable that a coil of both programs writes, in any letter case; without it each variable and block is judged, from all states";
 
 pub(crate) const DIFF_LOOKS_HELP: &str =
     "Without a COIL: how many scans of each program a verdict takes at most; without it 10000";
+
+pub(crate) const DIFF_REACHABLE_HELP: &str =
+    "Without a COIL: counts only states in which all is so that `ladder never` and `ladder never --off` list of each program, and of no pair of `ladder never --pairs` both are ON, as in each state that the machine reaches";
+
+pub(crate) const DIFF_SAVE_HELP: &str =
+    "Without a COIL: the folder that gets, for each row `differs`, the states that show it, NAME.old.csv and NAME.new.csv, and NAME.csv, a stimulus with the scan's moment";
 
 pub(crate) const DIFF_INPUTS_HELP: &str =
     "Inputs of both programs to list, at most 32; the others keep what the state of each stores";

@@ -104,6 +104,14 @@ fn program_of(request: &Request) -> &str {
     }
 }
 
+/// Makes a folder, unless it is there.
+pub(crate) fn make_folder(rt: &HostRuntime, folder: &str) -> io::Result<()> {
+    match fs::metadata(rt, folder) {
+        Ok(metadata) if metadata.is_dir() => Ok(()),
+        Ok(_) | Err(_) => fs::create_dir(rt, folder),
+    }
+}
+
 /// Where the lists of all coils go, and the texts that they are made from.
 #[derive(Drop)]
 struct Lists<'a> {
@@ -152,14 +160,6 @@ impl Lists<'_> {
         Ok(false)
     }
 
-    /// Makes the folder for the lists, unless it is there.
-    fn make_folder(&self) -> io::Result<()> {
-        match fs::metadata(self.rt, self.folder) {
-            Ok(metadata) if metadata.is_dir() => Ok(()),
-            Ok(_) | Err(_) => fs::create_dir(self.rt, self.folder),
-        }
-    }
-
     /// Writes the line of a fault. Returns the status 1.
     fn refuse(&self, fault: &ToolFault) -> u8
         ensures { result ≤ 1 }
@@ -176,7 +176,7 @@ impl Lists<'_> {
             Ok(path) => {
                 let file = fs::create(self.rt, path.as_str());
                 drop(path);
-                self.list_into(request, coil, Stream::Coil(file))
+                self.list_into(request, coil, Stream::Made(file))
             }
             Err(_) => {
                 drop(coil);
@@ -225,7 +225,7 @@ impl Lists<'_> {
             }
             Err(_) => return self.refuse(&ToolFault::Memory),
         }
-        if self.make_folder().is_err() {
+        if make_folder(self.rt, self.folder).is_err() {
             return self.refuse(&ToolFault::Write);
         }
         0

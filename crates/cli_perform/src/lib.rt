@@ -13,6 +13,7 @@ mod request;
 mod saving;
 mod stream;
 mod telling;
+mod witnesses;
 
 pub use coil::perform_coil;
 pub use coils::coil_names;

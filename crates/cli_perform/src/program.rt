@@ -8,6 +8,7 @@ use crate::opening::{diff_readers_of, readers_of, verdict_readers_of};
 use crate::saving::{SavedFile, followed};
 use crate::stream::Stream;
 use crate::telling::telling;
+use crate::witnesses::run_witnesses;
 use cli_arguments::{
     CommandLine, DiffRequest, Request, SimRequest, Task, VerdictRequest, WordFault, read_words,
 };
@@ -83,7 +84,10 @@ fn run_task(rt: &HostRuntime, alloc: Global, task: &mut Task) -> u8
         Task::Perform(line) => run_line(rt, alloc, line),
         Task::PerformAll(all) => run_coils(rt, alloc, all),
         Task::Compare(request) => run_diff(rt, alloc, request),
-        Task::Judge(request) => run_verdicts(rt, alloc, request),
+        Task::Judge(request) => match &request.save {
+            Some(folder) => run_witnesses(rt, alloc, request, folder.as_str()),
+            None => run_verdicts(rt, alloc, request),
+        },
         Task::Explain(names) => explain(rt, names),
     };
     drop(places);

@@ -9,8 +9,8 @@ use std::io::{self, Write};
 pub(crate) enum Stream<'a> {
     /// Standard output.
     Output(&'a HostRuntime),
-    /// The file of a coil, made anew and empty. One that couldn't be made is a failed write.
-    Coil(io::Result<File>),
+    /// A file of a folder, made anew and empty. One that couldn't be made is a failed write.
+    Made(io::Result<File>),
     /// The file that a state is saved to.
     Saved(SavedFile<'a>),
     /// What is written here is let go.
@@ -22,8 +22,8 @@ impl Write for Stream<'_> {
     fn write(&mut self, bytes: &[u8]) -> io::Result<usize> {
         match self {
             Stream::Output(rt) => io::writer(*rt).write(bytes),
-            Stream::Coil(Ok(file)) => file.write(bytes),
-            Stream::Coil(Err(error)) => Err(io::Error::from(error.kind())),
+            Stream::Made(Ok(file)) => file.write(bytes),
+            Stream::Made(Err(error)) => Err(io::Error::from(error.kind())),
             Stream::Saved(saved) => saved.write(bytes),
             Stream::Nothing => Ok(bytes.len()),
         }
@@ -32,8 +32,8 @@ impl Write for Stream<'_> {
     /// Flushes it; if a file couldn't be made, the error of that is the error of each call.
     fn flush(&mut self) -> io::Result<()> {
         match self {
-            Stream::Coil(Ok(file)) => file.flush(),
-            Stream::Coil(Err(error)) => Err(io::Error::from(error.kind())),
+            Stream::Made(Ok(file)) => file.flush(),
+            Stream::Made(Err(error)) => Err(io::Error::from(error.kind())),
             Stream::Saved(saved) => saved.flush(),
             Stream::Output(_) | Stream::Nothing => Ok(()),
         }

@@ -14,7 +14,7 @@ use Rattle.invariant_sets.specs.Invariants.{IsStaying}
 use Rattle.invariant_sets.specs.Pairs.{HasToldApart}
 use Rattle.text_causes.specs.CauseText.{limited}
 use Rattle.causes_any_state.specs.Possible.{AreRows}
-use Rattle.causes_any_state.specs.Reached.{AreReached}
+use Rattle.invariant_runs.specs.Reached.{AreReached}
 use Rattle.causes_any_state.specs.declared.states.States.{States}
 use Rattle.invariant_sets.specs.declared.staying.Staying.{Staying}
 use Rattle.causes_any_state.specs.declared.before.Before.TheVariants as before

@@ -7,12 +7,13 @@ ghost use Rattle.cli_questions.specs.Query.{question_of};
 ghost use Rattle.cli_states.specs.Query.{AsksFor, at_stored};
 ghost use Rattle.cli_states.specs.AnyState.{IsStayingBy, claimed, counted};
 
-use causes_any_state::{Before, Claim, PossibleCauses, PossibleQuery, States, staying_in_runs};
+use causes_any_state::{Before, Claim, PossibleCauses, PossibleQuery, States};
 use causes_query::CauseFault;
 use causes_query::refusal::refusal;
 use cli_arguments::PossibleRequest;
 use cli_questions::ListQuery;
 use diagram_program::Program;
+use invariant_runs::staying_in_runs;
 use invariant_sets::{PAIR_SCANS, SCANS, Staying};
 use scan_cycle::{Memory, State};
 use std::alloc::Global;

@@ -1,21 +1,20 @@
 //! The judging of two programs, once their texts were read.
 
-ghost use Rattle.std.specs.Prelude.{◌≡◌, ◌≤◌, ◌⊎◌};
+ghost use Rattle.std.specs.Prelude.{◌≡◌, ◌≤◌, ◌⊎◌, IfErr, IfOk};
 ghost use Rattle.diagram_reader.specs.Titled.{HasProgram};
-ghost use Rattle.io_text.specs.Log.{PutsAll, WriteLog};
+ghost use Rattle.io_text.specs.Log.{PutsAll, PutsPrefix, WriteLog};
 ghost use Rattle.cli_inputs.specs.Reports.{logs};
 ghost use Rattle.cli_inputs.specs.Setting.{given_by};
+ghost use Rattle.cli_questions.specs.Ending.{Ends, counts_line, unless_quiet};
 ghost use Rattle.cli_diff.specs.Ending.{RefusesOf};
-ghost use Rattle.cli_verdicts.specs.Ending.{BreaksVerdicts, CountsVerdicts, HasTextFault};
+ghost use Rattle.cli_verdicts.specs.Ending.{BreaksVerdicts, CountsVerdicts, FailsToJudge, FindsKept, HasTextFault};
 
-use crate::writing::write_verdicts;
+use crate::reading::{Programs, read_programs};
+use crate::writing::{Kept, Wanted, Written, write_verdicts};
 use cli_arguments::VerdictRequest;
-use cli_diff::{DiffTexts, SidedFault, of, report};
-use cli_inputs::read_given_program;
+use cli_diff::{DiffTexts, SidedFault, report};
 use cli_questions::put_counts;
-use diagram_program::Program;
 use io_text::Sink;
-use search_differences::Side;
 use std::alloc::Global;
 
 /// How many looks a verdict takes at most, where nothing is said of it.
@@ -29,56 +28,77 @@ fn looks_of(looks: Option<u64>) -> u32 {
     }
 }
 
-/// Judges two programs, as [`judge`] does.
-fn judge_both<O: Sink, E: Sink>(
-    alloc: Global,
-    request: &VerdictRequest,
-    texts: &DiffTexts,
-    old: &Program,
-    new: &Program,
-    out: &mut O,
-    err: &mut E,
-) -> u8
-    requires old { HasProgram (given_by texts.now.old).aliases (given_by texts.now.old).program old.now }
-    requires new { HasProgram (given_by texts.now.new).aliases (given_by texts.now.new).program new.now }
-    ensures status { result ≤ 1 }
-    ensures done { result ≡ 0 → CountsVerdicts (given_by texts.now.old) (given_by texts.now.new) request.now (O.log out.old) (O.log out.new) (PutsAll (E.log err.old) (E.log err.new)) }
-    ensures failed { (save : WriteLog) → result ≡ 1
-        → RefusesOf (given_by texts.now.old) (given_by texts.now.new) (HasTextFault (given_by texts.now.old) (given_by texts.now.new)) (logs (O.log out.old) save (E.log err.old)) (logs (O.log out.new) save (E.log err.new))
-        ⊎ BreaksVerdicts (given_by texts.now.old) (given_by texts.now.new) request.now (logs (O.log out.old) save (E.log err.old)) (logs (O.log out.new) save (E.log err.new)) }
+/// Writes the line of counts of what was written, and returns what is kept.
+fn put_written<E: Sink>(quiet: bool, written: Written, err: &mut E) -> Result<Kept, u8>
+    ensures done { IfOk result (λ kept. (kept ≡ written.kept) × PutsAll (E.log err.old) (E.log err.new) (unless_quiet quiet (counts_line written.counts))) }
+    ensures status { IfErr result (λ status. status ≡ 1) }
+    ensures failed { IfErr result (λ status. PutsPrefix (E.log err.old) (E.log err.new) (unless_quiet quiet (counts_line written.counts))) }
 {
-    match write_verdicts(alloc, looks_of(request.looks), old, new, out) {
-        Ok(counts) => match put_counts(request.quiet, counts, err) {
-            Ok(()) => 0,
-            Err(_) => 1,
-        },
-        Err(fault) => report(texts, SidedFault { side: None, fault }, err),
+    match put_counts(quiet, written.counts, err) {
+        Ok(()) => Ok(written.kept),
+        Err(_) => {
+            drop(written);
+            Err(1)
+        }
     }
 }
 
-/// Reads the new program and judges both.
-fn judge_new<O: Sink, E: Sink>(
+/// Judges two programs, as [`judge`] does, and returns what belongs together in them, and the states that show each difference where they are
+/// to be kept.
+///
+/// # Errors
+///
+/// The status 1 where memory ran out or a writer failed, once the line of the fault is on `err`, as far as that takes it.
+pub fn judge_programs<O: Sink, E: Sink>(
     alloc: Global,
     request: &VerdictRequest,
     texts: &DiffTexts,
-    old: &Program,
+    programs: &Programs,
+    keeps: bool,
+    out: &mut O,
+    err: &mut E,
+) -> Result<Kept, u8>
+    requires old { HasProgram (given_by texts.now.old).aliases (given_by texts.now.old).program programs.now.old }
+    requires new { HasProgram (given_by texts.now.new).aliases (given_by texts.now.new).program programs.now.new }
+    ensures done { IfOk result (λ kept. Ends (FindsKept keeps request.now.reachable programs.now.old programs.now.new kept.matching kept.witnesses.items)
+        request.now.quiet (O.log out.old) (O.log out.new) (PutsAll (E.log err.old) (E.log err.new))) }
+    ensures status { IfErr result (λ status. status ≡ 1) }
+    ensures failed { (save : WriteLog) → IfErr result (λ status.
+        FailsToJudge (given_by texts.now.old) (given_by texts.now.new) request.now (logs (O.log out.old) save (E.log err.old)) (logs (O.log out.new) save (E.log err.new))) }
+{
+    let wanted = Wanted {
+        looks: looks_of(request.looks),
+        reachable: request.reachable,
+        keeps,
+    };
+    match write_verdicts(alloc, wanted, &programs.old, &programs.new, out) {
+        Ok(written) => put_written(request.quiet, written, err),
+        Err(fault) => Err(report(texts, SidedFault { side: None, fault }, err)),
+    }
+}
+
+/// Judges two programs that were read, and returns the status.
+fn judge_read<O: Sink, E: Sink>(
+    alloc: Global,
+    request: &VerdictRequest,
+    texts: &DiffTexts,
+    programs: &Programs,
     out: &mut O,
     err: &mut E,
 ) -> u8
-    requires old { HasProgram (given_by texts.now.old).aliases (given_by texts.now.old).program old.now }
+    requires old { HasProgram (given_by texts.now.old).aliases (given_by texts.now.old).program programs.now.old }
+    requires new { HasProgram (given_by texts.now.new).aliases (given_by texts.now.new).program programs.now.new }
     ensures status { result ≤ 1 }
     ensures done { result ≡ 0 → CountsVerdicts (given_by texts.now.old) (given_by texts.now.new) request.now (O.log out.old) (O.log out.new) (PutsAll (E.log err.old) (E.log err.new)) }
     ensures failed { (save : WriteLog) → result ≡ 1
-        → RefusesOf (given_by texts.now.old) (given_by texts.now.new) (HasTextFault (given_by texts.now.old) (given_by texts.now.new)) (logs (O.log out.old) save (E.log err.old)) (logs (O.log out.new) save (E.log err.new))
-        ⊎ BreaksVerdicts (given_by texts.now.old) (given_by texts.now.new) request.now (logs (O.log out.old) save (E.log err.old)) (logs (O.log out.new) save (E.log err.new)) }
+        → FailsToJudge (given_by texts.now.old) (given_by texts.now.new) request.now (logs (O.log out.old) save (E.log err.old)) (logs (O.log out.new) save (E.log err.new)) }
 {
-    match read_given_program(alloc, &texts.new) {
-        Ok(new) => {
-            let status = judge_both(alloc, request, texts, old, &new, out, err);
-            drop(new);
-            status
+    match judge_programs(alloc, request, texts, programs, false, out, err) {
+        Ok(kept) => {
+            drop(kept);
+            0
         }
-        Err(fault) => report(texts, of(Side::New, fault), err),
+        Err(status) => status,
     }
 }
 
@@ -97,12 +117,12 @@ pub fn judge<O: Sink, E: Sink>(
         → RefusesOf (given_by texts.now.old) (given_by texts.now.new) (HasTextFault (given_by texts.now.old) (given_by texts.now.new)) (logs (O.log out.old) save (E.log err.old)) (logs (O.log out.new) save (E.log err.new))
         ⊎ BreaksVerdicts (given_by texts.now.old) (given_by texts.now.new) request.now (logs (O.log out.old) save (E.log err.old)) (logs (O.log out.new) save (E.log err.new)) }
 {
-    match read_given_program(alloc, &texts.old) {
-        Ok(old) => {
-            let status = judge_new(alloc, request, texts, &old, out, err);
-            drop(old);
+    match read_programs(alloc, texts, err) {
+        Ok(programs) => {
+            let status = judge_read(alloc, request, texts, &programs, out, err);
+            drop(programs);
             status
         }
-        Err(fault) => report(texts, of(Side::Old, fault), err),
+        Err(status) => status,
     }
 }

@@ -1,9 +1,13 @@
 //! Judges two programs: of each name, whether both leave it alike.
 #![tactic(auto)]
 
+mod counting;
 mod files;
 mod judging;
+mod reading;
 mod writing;
 
 pub use files::judge_files;
-pub use judging::judge;
+pub use judging::{judge, judge_programs};
+pub use reading::{Programs, read_programs};
+pub use writing::Kept;

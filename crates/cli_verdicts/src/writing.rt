@@ -1,39 +1,81 @@
 //! What is found of two programs, written.
 
-ghost use Rattle.std.specs.Prelude.{◌≡◌, IfOk};
+ghost use Rattle.std.specs.Prelude.{◌≡◌, IfErr, IfOk, true};
 ghost use Rattle.diff_matching.specs.Names.{IsByNames};
 ghost use Rattle.diff_matching.specs.Runs.{HaveNoInput};
 ghost use Rattle.diff_matching.specs.Suited.{IsSuited};
-ghost use Rattle.diff_verdicts.specs.Verdicts.{AreTrue};
-ghost use Rattle.cli_verdicts.specs.Ending.{WritesFindings, verdict_counts};
+ghost use Rattle.diff_meaning.specs.Counting.{StayFromFresh};
+ghost use Rattle.diff_meaning.specs.Verdicts.{AreTrue};
+ghost use Rattle.diff_meaning.specs.Witnesses.{AreWitnesses};
+ghost use Rattle.diff_findings.specs.Findings.{findings as findings_list};
+ghost use Rattle.cli_verdicts.specs.Ending.{AreCounted, FailsToWrite, WritesJudged, WritesKept, verdict_counts};
 
+use crate::counting::counted_of;
 use cli_inputs::ToolFault;
 use cli_questions::ListCounts;
 use diagram_program::Program;
 use diff_findings::{Compared, Finding, are_equivalent, count_verdicts, findings};
 use diff_matching::Matching;
-use diff_verdicts::{Judge, Verdicts, judge_all};
+use diff_meaning::{Counted, Verdicts, Witness};
+use diff_verdicts::{Judge, Judgement, judge_all};
 use io_text::Sink;
 use scan_cycle::Memory;
 use std::alloc::Global;
 use text_findings::write_findings;
 
-/// The verdicts on all that belongs together.
+/// How two programs are judged.
+#[derive(Clone, Copy)]
+pub(crate) struct Wanted {
+    /// How many looks a verdict takes at most.
+    pub looks: u32,
+    /// Whether only states count in which it is so what stays so.
+    pub reachable: bool,
+    /// Whether states that show differences are kept.
+    pub keeps: bool,
+}
+
+/// What is kept of two programs that were judged.
+#[derive(Drop)]
+pub struct Kept {
+    /// What belongs together in them.
+    pub matching: Matching,
+    /// The states that show each difference, where they are kept.
+    pub witnesses: Vec<Witness>,
+}
+
+/// What was written, and the states that show it.
+#[derive(Drop)]
+pub(crate) struct Told {
+    pub counts: ListCounts,
+    pub witnesses: Vec<Witness>,
+}
+
+/// The same, and what belongs together.
+#[derive(Drop)]
+pub(crate) struct Written {
+    pub counts: ListCounts,
+    pub kept: Kept,
+}
+
+/// The verdicts on all that belongs together, and the states that show the differences.
 fn judged(
     alloc: Global,
-    looks: u32,
+    wanted: Wanted,
     old: &Program,
     new: &Program,
     matching: &Matching,
-) -> Result<Verdicts, Memory>
-    requires { IsSuited matching.now old.now new.now }
-    ensures { IfOk result (AreTrue matching.now old.now new.now) }
+    counted: &Counted,
+) -> Result<Judgement, Memory>
+    requires suited { IsSuited matching.now old.now new.now }
+    requires counted { AreCounted wanted.reachable old.now new.now counted.now }
+    ensures verdicts { IfOk result (λ j. AreTrue counted.now matching.now old.now new.now j.verdicts) }
+    ensures kept { wanted.keeps ≡ true → IfOk result (λ j. AreWitnesses counted.now matching.now old.now new.now j.verdicts j.witnesses.items) }
 {
-    let mut judge = match Judge::new(alloc, old, new, matching) {
+    let mut judge = match Judge::new(alloc, old, new, matching, counted) {
         Ok(judge) => judge,
         Err(_) => return Err(Memory),
     };
-    judge_all(alloc, &mut judge, looks)
+    judge_all(alloc, &mut judge, wanted.looks, wanted.keeps)
 }
 
 /// What is counted of findings.
@@ -49,54 +91,112 @@ fn counts_of(list: &[Finding], is_equivalent: bool) -> ListCounts
     }
 }
 
+/// Writes findings, and counts them.
+fn write_list<O: Sink>(
+    alloc: Global,
+    compared: Compared<'_>,
+    list: &[Finding],
+    out: &mut O,
+) -> Result<ListCounts, ToolFault>
+    requires no_input { HaveNoInput compared.matching.now compared.old.now compared.new.now }
+    requires judged { AreTrue compared.counted.now compared.matching.now compared.old.now compared.new.now compared.verdicts.now }
+    requires stays { StayFromFresh compared.counted.now compared.old.now compared.new.now }
+    requires list { list.now ≡ findings_list compared.old.now compared.new.now compared.matching.now compared.verdicts.now }
+    ensures { WritesJudged compared.entry.old.now compared.entry.new.now compared.entry.matching.now compared.entry.verdicts.now (O.log out.old) (O.log out.new) result }
+{
+    let Ok(is_equivalent) = are_equivalent(alloc, compared, list) else {
+        return Err(ToolFault::Memory);
+    };
+    match write_findings(compared.old, compared.new, list, out) {
+        Ok(()) => Ok(counts_of(list, is_equivalent)),
+        Err(_) => Err(ToolFault::Write),
+    }
+}
+
 /// Writes what is found of two programs, by verdicts that are true.
 fn write_judged<O: Sink>(
     alloc: Global,
     compared: Compared<'_>,
     out: &mut O,
 ) -> Result<ListCounts, ToolFault>
-    requires names { IsByNames compared.matching.now compared.old.now compared.new.now }
     requires no_input { HaveNoInput compared.matching.now compared.old.now compared.new.now }
-    requires judged { AreTrue compared.matching.now compared.old.now compared.new.now compared.verdicts.now }
-    ensures { WritesFindings compared.entry.old.now compared.entry.new.now (O.log out.old) (O.log out.new) result }
+    requires judged { AreTrue compared.counted.now compared.matching.now compared.old.now compared.new.now compared.verdicts.now }
+    requires stays { StayFromFresh compared.counted.now compared.old.now compared.new.now }
+    ensures { WritesJudged compared.entry.old.now compared.entry.new.now compared.entry.matching.now compared.entry.verdicts.now (O.log out.old) (O.log out.new) result }
 {
-    let Ok(list) = findings(alloc, compared) else {
-        return Err(ToolFault::Memory);
+    let list = match findings(alloc, compared) {
+        Ok(list) => list,
+        Err(_) => return Err(ToolFault::Memory),
     };
-    let Ok(is_equivalent) = are_equivalent(alloc, compared, &list) else {
-        return Err(ToolFault::Memory);
-    };
-    match write_findings(compared.old, compared.new, &list, out) {
-        Ok(()) => Ok(counts_of(&list, is_equivalent)),
-        Err(_) => Err(ToolFault::Write),
-    }
+    let written = write_list(alloc, compared, &list, out);
+    drop(list);
+    written
 }
 
-/// The same, once all that belongs together was judged.
-fn write_matched<O: Sink>(
+/// The same, once it is known which states count.
+fn write_counted<O: Sink>(
     alloc: Global,
-    looks: u32,
+    wanted: Wanted,
     old: &Program,
     new: &Program,
     matching: &Matching,
+    counted: &Counted,
     out: &mut O,
-) -> Result<ListCounts, ToolFault>
+) -> Result<Told, ToolFault>
     requires names { IsByNames matching.now old.now new.now }
     requires suited { IsSuited matching.now old.now new.now }
     requires no_input { HaveNoInput matching.now old.now new.now }
-    ensures { WritesFindings old.now new.now (O.log out.old) (O.log out.new) result }
+    requires counted { AreCounted wanted.reachable old.now new.now counted.now }
+    ensures done { IfOk result (λ t. WritesKept wanted old.now new.now matching.now (O.log out.old) (O.log out.new) t.witnesses.items t.counts) }
+    ensures failed { IfErr result (FailsToWrite wanted.reachable old.now new.now (O.log out.old) (O.log out.new)) }
 {
-    let verdicts = match judged(alloc, looks, old, new, matching) {
-        Ok(verdicts) => verdicts,
+    let Judgement {
+        verdicts,
+        witnesses,
+    } = match judged(alloc, wanted, old, new, matching, counted) {
+        Ok(judgement) => judgement,
         Err(_) => return Err(ToolFault::Memory),
     };
     let compared = Compared {
         old,
         new,
         matching,
+        counted,
         verdicts: &verdicts,
     };
-    write_judged(alloc, compared, out)
+    let written = write_judged(alloc, compared, out);
+    drop(verdicts);
+    match written {
+        Ok(counts) => Ok(Told { counts, witnesses }),
+        Err(fault) => {
+            drop(witnesses);
+            Err(fault)
+        }
+    }
+}
+
+/// The same, once it is known what belongs together.
+fn write_matched<O: Sink>(
+    alloc: Global,
+    wanted: Wanted,
+    old: &Program,
+    new: &Program,
+    matching: &Matching,
+    out: &mut O,
+) -> Result<Told, ToolFault>
+    requires names { IsByNames matching.now old.now new.now }
+    requires suited { IsSuited matching.now old.now new.now }
+    requires no_input { HaveNoInput matching.now old.now new.now }
+    ensures done { IfOk result (λ t. WritesKept wanted old.now new.now matching.now (O.log out.old) (O.log out.new) t.witnesses.items t.counts) }
+    ensures failed { IfErr result (FailsToWrite wanted.reachable old.now new.now (O.log out.old) (O.log out.new)) }
+{
+    let counted = match counted_of(alloc, wanted.reachable, old, new) {
+        Ok(counted) => counted,
+        Err(_) => return Err(ToolFault::Memory),
+    };
+    let told = write_counted(alloc, wanted, old, new, matching, &counted, out);
+    drop(counted);
+    told
 }
 
 /// Judges two programs by what belongs together in them by names, and writes what is found.
@@ -106,16 +206,29 @@ fn write_matched<O: Sink>(
 /// `Memory`, and then nothing was written; `Write` where the writer failed, and then a prefix of the text was.
 pub(crate) fn write_verdicts<O: Sink>(
     alloc: Global,
-    looks: u32,
+    wanted: Wanted,
     old: &Program,
     new: &Program,
     out: &mut O,
-) -> Result<ListCounts, ToolFault>
-    ensures { WritesFindings old.now new.now (O.log out.old) (O.log out.new) result }
+) -> Result<Written, ToolFault>
+    ensures done { IfOk result (λ w. WritesKept wanted old.now new.now w.kept.matching (O.log out.old) (O.log out.new) w.kept.witnesses.items w.counts) }
+    ensures failed { IfErr result (FailsToWrite wanted.reachable old.now new.now (O.log out.old) (O.log out.new)) }
 {
     let matching = match Matching::by_names(alloc, old, new) {
         Ok(matching) => matching,
         Err(_) => return Err(ToolFault::Memory),
     };
-    write_matched(alloc, looks, old, new, &matching, out)
+    match write_matched(alloc, wanted, old, new, &matching, out) {
+        Ok(told) => Ok(Written {
+            counts: told.counts,
+            kept: Kept {
+                matching,
+                witnesses: told.witnesses,
+            },
+        }),
+        Err(fault) => {
+            drop(matching);
+            Err(fault)
+        }
+    }
 }

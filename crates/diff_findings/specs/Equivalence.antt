@@ -8,8 +8,8 @@ use Rattle.diagram_program.specs.Program.{Drawing}
 use Rattle.scan_cycle.specs.Standing.{fresh}
 use Rattle.diff_matching.specs.Matching.{Agree, AgreeOnInputs, Matching}
 use Rattle.diff_matching.specs.Runs.{AgreeAfterEach, AreRuns, TwoScans}
-use Rattle.diff_verdicts.specs.Verdicts.{AreAllSame}
-use Rattle.diff_verdicts.specs.declared.verdict.Verdicts.{Verdicts}
+use Rattle.diff_meaning.specs.Verdicts.{AreAllSame}
+use Rattle.diff_meaning.specs.declared.verdict.Verdicts.{Verdicts}
 use Rattle.diff_findings.specs.Findings.{findings}
 use Rattle.diff_findings.specs.declared.finding.Finding.{Finding}
 use Rattle.diff_findings.specs.declared.finding.Remark.{Remark}

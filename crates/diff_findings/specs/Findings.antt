@@ -7,9 +7,9 @@ use Rattle.diagram_program.specs.Program.{Drawing, has_coil, memories_of}
 use Rattle.scan_cycle.specs.Programs.{diagram_of}
 use Rattle.diff_matching.specs.Matching.{Matching}
 use Rattle.diff_matching.specs.declared.matching.Pair.{Pair}
-use Rattle.diff_verdicts.specs.declared.verdict.Verdict.{Verdict}
-use Rattle.diff_verdicts.specs.declared.verdict.Verdict.TheVariants.{Same, Unsettled}
-use Rattle.diff_verdicts.specs.declared.verdict.Verdicts.{Verdicts}
+use Rattle.diff_meaning.specs.declared.verdict.Verdict.{Verdict}
+use Rattle.diff_meaning.specs.declared.verdict.Verdict.TheVariants.{Same, Unsettled}
+use Rattle.diff_meaning.specs.declared.verdict.Verdicts.{Verdicts}
 use Rattle.diff_findings.specs.declared.finding.Finding.{Finding}
 use Rattle.diff_findings.specs.declared.finding.Remark.{Remark}
 use Rattle.diff_findings.specs.declared.finding.Remark.TheVariants.{Judged, Initial, Preset, Moved, Alone}

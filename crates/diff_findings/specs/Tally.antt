@@ -1,7 +1,7 @@
 -- How many names were judged how.
 use Rattle.std.specs.Prelude.{Bool, true, false, List, count_by}
-use Rattle.diff_verdicts.specs.declared.verdict.Verdict.{Verdict}
-use Rattle.diff_verdicts.specs.declared.verdict.Verdict.TheVariants.{Same, Differs, Unsettled}
+use Rattle.diff_meaning.specs.declared.verdict.Verdict.{Verdict}
+use Rattle.diff_meaning.specs.declared.verdict.Verdict.TheVariants.{Same, Differs, Unsettled}
 use Rattle.diff_findings.specs.declared.finding.Finding.{Finding}
 use Rattle.diff_findings.specs.declared.finding.Remark.{Remark}
 use Rattle.diff_findings.specs.declared.finding.Remark.TheVariants.{Judged}

@@ -2,8 +2,11 @@
 
 ghost use Rattle.std.specs.Prelude.{◌≡◌, ◌↔◌, IfOk, IsTrue};
 ghost use Rattle.std.specs.List.{list_any};
+ghost use Rattle.scan_cycle.specs.Standing.{fresh};
+ghost use Rattle.diff_matching.specs.Matching.{Agree, AgreeOnInputs};
 ghost use Rattle.diff_matching.specs.Runs.{HaveNoInput};
-ghost use Rattle.diff_verdicts.specs.Verdicts.{AreTrue};
+ghost use Rattle.diff_meaning.specs.Counting.{StayFromFresh};
+ghost use Rattle.diff_meaning.specs.Verdicts.{AreTrue};
 ghost use Rattle.diff_findings.specs.Equivalence.{BeginAlike, IsSaidOfRuns, is_about_terminals, is_output_alone, is_output_of};
 ghost use Rattle.diff_findings.specs.Findings.{findings};
 
@@ -11,19 +14,42 @@ use crate::finding::{Finding, Remark, Sort, Subject};
 use crate::listing::Compared;
 use diagram_declarations::VarKind;
 use diagram_program::Program;
-use diff_matching::agree;
-use diff_verdicts::are_all_same;
-use diff_verdicts::laws::fresh_runs_agree;
+use diff_matching::{Matching, agree};
+use diff_meaning::are_all_same;
+use diff_meaning::laws::fresh_runs_agree;
 use scan_cycle::{Memory, State};
 use std::alloc::Global;
+
+/// Whether a state agrees with the fresh one of the new program.
+fn begins_like(
+    alloc: Global,
+    matching: &Matching,
+    old: &State,
+    new: &Program,
+) -> Result<bool, Memory>
+    ensures { IfOk result (λ b. IsTrue b ↔ (Agree matching.now old.now.held (fresh new.now).held × AgreeOnInputs matching.now old.now.held (fresh new.now).held)) }
+{
+    match State::fresh(alloc, new) {
+        Ok(new) => {
+            let is_alike = agree(matching, old, &new);
+            drop(new);
+            Ok(is_alike)
+        }
+        Err(_) => Err(Memory),
+    }
+}
 
 /// Whether all that belongs together begins alike.
 fn begin_alike(alloc: Global, compared: Compared<'_>) -> Result<bool, Memory>
     ensures { IfOk result (λ b. IsTrue b ↔ BeginAlike compared.entry.matching.now compared.entry.old.now compared.entry.new.now) }
 {
-    let old = State::fresh(alloc, compared.old)?;
-    let new = State::fresh(alloc, compared.new)?;
-    Ok(agree(compared.matching, &old, &new))
+    let old = match State::fresh(alloc, compared.old) {
+        Ok(state) => state,
+        Err(_) => return Err(Memory),
+    };
+    let is_alike = begins_like(alloc, compared.matching, &old, compared.new);
+    drop(old);
+    is_alike
 }
 
 /// Whether a variable is an output.
@@ -65,8 +91,12 @@ fn is_about_terminals(compared: Compared<'_>, finding: &Finding) -> bool
 fn tells_terminals(compared: Compared<'_>, list: &[Finding]) -> bool
     ensures { result ≡ list_any (is_about_terminals compared.entry.old.now compared.entry.new.now) list.now }
 {
-    list.iter()
-        .any(|finding| is_about_terminals(compared, finding))
+    for finding in list {
+        if is_about_terminals(compared, finding) {
+            return true;
+        }
+    }
+    false
 }
 
 /// Whether all that belongs together in two programs is left alike and begins alike, and the outputs are the same ones at the same addresses,
@@ -80,7 +110,8 @@ pub fn are_equivalent(
     compared: Compared<'_>,
     list: &[Finding],
 ) -> Result<bool, Memory>
-    requires judged { AreTrue compared.matching.now compared.old.now compared.new.now compared.verdicts.now }
+    requires judged { AreTrue compared.counted.now compared.matching.now compared.old.now compared.new.now compared.verdicts.now }
+    requires stays { StayFromFresh compared.counted.now compared.old.now compared.new.now }
     requires no_input { HaveNoInput compared.matching.now compared.old.now compared.new.now }
     requires list { list.now ≡ findings compared.old.now compared.new.now compared.matching.now compared.verdicts.now }
     ensures { IfOk result (IsSaidOfRuns compared.entry.matching.now compared.entry.old.now compared.entry.new.now compared.entry.verdicts.now) }

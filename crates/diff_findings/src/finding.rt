@@ -1,10 +1,10 @@
 //! What is said of a name.
 
 use diagram_declarations::Address;
-use diff_verdicts::Verdict;
+use diff_meaning::Verdict;
 
 /// Of what something is said.
-#[derive(Clone, Copy, Debug, PartialEq, Eq)]
+#[derive(Clone, Copy)]
 pub enum Sort {
     /// A variable of the new program.
     NewVariable,
@@ -19,7 +19,7 @@ pub enum Sort {
 }
 
 /// Of which one, by its number in its program.
-#[derive(Clone, Copy, Debug, PartialEq, Eq)]
+#[derive(Clone, Copy)]
 pub struct Subject {
     pub sort: Sort,
     pub number: usize,

@@ -7,16 +7,17 @@ use crate::finding::{Finding, Sort, Subject};
 use crate::remarks::add_remarks;
 use diagram_program::Program;
 use diff_matching::Matching;
-use diff_verdicts::Verdicts;
+use diff_meaning::{Counted, Verdicts};
 use scan_cycle::Memory;
 use std::alloc::Global;
 
-/// Two programs, what belongs together in them, and what was judged of it.
+/// Two programs, what belongs together in them, which states count, and what was judged of what belongs together.
 #[derive(Clone, Copy)]
 pub struct Compared<'a> {
     pub old: &'a Program,
     pub new: &'a Program,
     pub matching: &'a Matching,
+    pub counted: &'a Counted,
     pub verdicts: &'a Verdicts,
 }
 

@@ -7,7 +7,7 @@ use crate::declared::{address_of, initial_of, is_same_bit, is_same_place, is_wri
 use crate::finding::{Finding, Remark, Sort, Subject};
 use crate::listing::Compared;
 use diff_matching::Pair;
-use diff_verdicts::Verdict;
+use diff_meaning::Verdict;
 use scan_cycle::Memory;
 
 /// The place of the pair that a number of the old program is in.

@@ -1,3 +1,3 @@
-mod Equivalent
+mod Carrying
 mod Listing
-mod Opening
+mod Opened

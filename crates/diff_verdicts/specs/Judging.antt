@@ -11,23 +11,29 @@ use Rattle.diff_matching.specs.Matching.{Matching}
 use Rattle.diff_cases.specs.Alike.{IsComparable}
 use Rattle.diff_cases.specs.Cases.{IsToldAlike}
 use Rattle.diff_cases.specs.declared.target.Target.{Target}
-use Rattle.diff_verdicts.specs.declared.content.TheConstants.{MOMENT}
-use Rattle.diff_verdicts.specs.declared.asking.Nothing.{Nothing}
+use Rattle.diff_meaning.specs.declared.counted.Counted.{Counted}
+use Rattle.diff_meaning.specs.declared.counted.Counted.TheVariants.{All, Reachable}
+use Rattle.diff_meaning.specs.declared.verdict.PairSort.TheVariants.{Variables, Instances}
+use Rattle.diff_meaning.specs.declared.verdict.TheConstants.{MOMENT}
+use Rattle.diff_verdicts.specs.Carrying.{Knowns, carried_all}
+use Rattle.diff_verdicts.specs.declared.opening.Nothing.{Nothing}
 use Rattle.diff_verdicts.specs.declared.checking.Tried.{Tried}
 
--- What a caller sees: the two programs, what belongs together in them, and the states that showed a difference last.
+-- What a caller sees: the two programs, what belongs together in them, which states count, and the states that showed a difference last.
 pub record Judging : Type 0 where
   pub old_program : Drawing
   pub new_program : Drawing
   pub matching : Matching
+  pub counted : Counted
   pub old_state : Standing
   pub new_state : Standing
 
--- The second judges the same programs by the same matching.
+-- The second judges the same programs by the same matching, and the same states count.
 pub record JudgesTheSame (j k : Judging) : Type 0 where
   pub old_program : k.old_program ≡ j.old_program
   pub new_program : k.new_program ≡ j.new_program
   pub matching : k.matching ≡ j.matching
+  pub counted : k.counted ≡ j.counted
 
 -- The set that claims nothing of the program.
 abbrev pub no_claims : Drawing → Bits
@@ -37,9 +43,15 @@ no_claims p = record { variables = replicate (length p.decls.vars) Unsure; insta
 abbrev pub knowing_nothing : Drawing → Known Tri Outcome
 knowing_nothing p = knowing p (no_claims p)
 
--- One scan of each over three values tells that the target is left alike, where nothing is known before it.
-abbrev pub IsToldAtOnce : Matching → Drawing → Drawing → Target → Type 0
-IsToldAtOnce m p q target = IsComparable m p q target × IsToldAlike p q target (knowing_nothing p) (knowing_nothing q)
+-- All that is known of two states that agree and count: nothing, or what stays so in each program, and of what belongs together in both.
+abbrev pub opening : Counted → Matching → Drawing → Drawing → Knowns
+opening All m p q = record { of_old = knowing_nothing p; of_new = knowing_nothing q }
+opening (Reachable old new) m p q =
+    carried_all Instances m.instances (carried_all Variables m.variables (record { of_old = knowing p old.steady; of_new = knowing q new.steady }))
+
+-- One scan of each over three values tells that the target is left alike, from all that is known where states agree and count.
+abbrev pub IsToldAtOnce : Counted → Matching → Drawing → Drawing → Target → Type 0
+IsToldAtOnce c m p q target = IsComparable m p q target × IsToldAlike p q target (opening c m p q).of_old (opening c m p q).of_new
 
 -- Private: both sets claim nothing.
 pub record ClaimNothing (p q : Drawing) (n : Nothing) : Type 0 where

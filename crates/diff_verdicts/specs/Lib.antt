@@ -1,3 +1,3 @@
-pub mod Verdicts
+pub mod Carrying
 pub mod Judging
-pub mod Laws
+pub mod Keeping

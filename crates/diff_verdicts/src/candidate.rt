@@ -3,7 +3,7 @@
 ghost use Rattle.std.specs.Prelude.{◌≡◌};
 ghost use Rattle.scan_cycle.specs.Standing.{Fits};
 ghost use Rattle.diff_verdicts.specs.Judging.{AreTried};
-ghost use Rattle.diff_verdicts.specs.declared.content.TheConstants.{MOMENT};
+ghost use Rattle.diff_meaning.specs.declared.verdict.TheConstants.{MOMENT};
 
 use crate::checking::Tried;
 use crate::content::{Form, Mould, content};

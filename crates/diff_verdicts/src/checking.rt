@@ -2,16 +2,18 @@
 
 ghost use Rattle.std.specs.Prelude.{◌≡◌, ◌↔◌, IfOk, IfSome, IsTrue};
 ghost use Rattle.scan_cycle.specs.Standing.{Fits};
-ghost use Rattle.diff_matching.specs.Matching.{scanned};
+ghost use Rattle.diff_matching.specs.Matching.{Agree, AgreeOnInputs, scanned};
 ghost use Rattle.diff_cases.specs.Alike.{AreAlike};
+ghost use Rattle.diff_meaning.specs.Counting.{AreOfPrograms, Count};
+ghost use Rattle.diff_meaning.specs.Verdicts.{Shows, new_value, old_value};
+ghost use Rattle.diff_meaning.specs.declared.verdict.TheConstants.{MOMENT};
 ghost use Rattle.diff_verdicts.specs.Judging.{AreTried};
-ghost use Rattle.diff_verdicts.specs.Verdicts.{Shows, new_value, old_value};
-ghost use Rattle.diff_verdicts.specs.declared.content.TheConstants.{MOMENT};
 
-use crate::content::MOMENT;
 use diagram_program::Program;
 use diff_cases::{AlikeQuestion, Target};
 use diff_matching::agree;
+use diff_meaning::{Counted, MOMENT};
+use invariant_runs::stays_so;
 use scan_cycle::{Memory, State, scan};
 use scan_signals::Stored;
 use std::alloc::Global;
@@ -117,16 +119,45 @@ fn scan_copy(program: &Program, state: &State, end: &mut State)
     }
 }
 
-/// What a scan of each of the two states leaves, where they agree and it leaves the target different.
-pub(crate) fn check(question: AlikeQuestion<'_>, tried: &mut Tried) -> Option<Ends>
-    requires { AreTried question.old.now question.new.now tried.old }
-    ensures shown { IfSome result (λ ends. Shows question.entry.matching.now question.entry.old.now question.entry.new.now question.entry.target
+/// Whether the two states count.
+fn count(question: AlikeQuestion<'_>, counted: &Counted, tried: &Tried) -> bool
+    requires { AreOfPrograms counted.now question.old.now question.new.now }
+    ensures { IsTrue result → Count counted.now tried.now.old_state.held tried.now.new_state.held }
+{
+    match counted {
+        Counted::All => true,
+        Counted::Reachable { old, new } => {
+            stays_so(question.old, old, &tried.old_state)
+                && stays_so(question.new, new, &tried.new_state)
+        }
+    }
+}
+
+/// Whether the two states agree and count.
+fn are_to_be_tried(question: AlikeQuestion<'_>, counted: &Counted, tried: &Tried) -> bool
+    requires { AreOfPrograms counted.now question.old.now question.new.now }
+    ensures agree { IsTrue result → Agree question.entry.matching.now tried.now.old_state.held tried.now.new_state.held }
+    ensures inputs { IsTrue result → AgreeOnInputs question.entry.matching.now tried.now.old_state.held tried.now.new_state.held }
+    ensures count { IsTrue result → Count counted.now tried.now.old_state.held tried.now.new_state.held }
+{
+    agree(question.matching, &tried.old_state, &tried.new_state) && count(question, counted, tried)
+}
+
+/// What a scan of each of the two states leaves, where they agree and count and it leaves the target different.
+pub(crate) fn check(
+    question: AlikeQuestion<'_>,
+    counted: &Counted,
+    tried: &mut Tried,
+) -> Option<Ends>
+    requires counted { AreOfPrograms counted.now question.old.now question.new.now }
+    requires tried { AreTried question.old.now question.new.now tried.old }
+    ensures shown { IfSome result (λ ends. Shows counted.now question.entry.matching.now question.entry.old.now question.entry.new.now question.entry.target
         tried.new.old_state tried.new.new_state ends.of_old ends.of_new) }
     ensures tried { AreTried question.entry.old.now question.entry.new.now tried.new }
 {
     tried.old_state.checked();
     tried.new_state.checked();
-    if !agree(question.matching, &tried.old_state, &tried.new_state) {
+    if !are_to_be_tried(question, counted, tried) {
         return None;
     }
     scan_copy(question.old, &tried.old_state, &mut tried.old_end);

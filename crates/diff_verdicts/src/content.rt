@@ -2,15 +2,13 @@
 
 ghost use Rattle.std.specs.Prelude.{◌≤◌};
 ghost use Rattle.diagram_declarations.specs.declared.kind.BlockKind.TheVariants as kind;
-ghost use Rattle.diff_verdicts.specs.declared.content.TheConstants.{MOMENT};
+ghost use Rattle.diff_meaning.specs.declared.verdict.TheConstants.{MOMENT};
 ghost use Rattle.scan_cycle.specs.Standing.{CanStore};
 
 use diagram_declarations::BlockKind;
+use diff_meaning::MOMENT;
 use invariant_cases::Answer;
 use scan_signals::Stored;
-
-/// The moment of the states that are tried, and of their scan, at which each preset may have passed: some 50 days.
-pub const MOMENT: u64 = 4_294_967_296;
 
 /// How an instance is to stand to its preset.
 #[derive(Clone, Copy)]

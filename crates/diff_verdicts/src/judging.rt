@@ -3,19 +3,21 @@
 ghost use Rattle.std.specs.Prelude.{◌≡◌, ◌<◌, Bool, IfOk};
 ghost use Rattle.diff_cases.specs.declared.target.Target.TheVariants.{Contents, Memory as Edge, Variable};
 ghost use Rattle.diff_matching.specs.Suited.{IsSuited};
+ghost use Rattle.diff_meaning.specs.Counting.{AreOfPrograms};
+ghost use Rattle.diff_meaning.specs.Verdicts.{CanBeJudged, IsTrueOf, Shows};
+ghost use Rattle.diff_meaning.specs.declared.verdict.TheConstants.{MOMENT};
+ghost use Rattle.diff_meaning.specs.declared.verdict.Verdict.TheVariants.{Differs, Same, Unsettled};
 ghost use Rattle.diff_rungs.specs.Common.{AreLeftAlike};
 ghost use Rattle.diff_verdicts.specs.Judging.{IsToldAtOnce, JudgesTheSame};
-ghost use Rattle.diff_verdicts.specs.Verdicts.{CanBeJudged, IsTrueOf, Shows};
-ghost use Rattle.diff_verdicts.specs.declared.content.TheConstants.{MOMENT};
-ghost use Rattle.diff_verdicts.specs.declared.verdict.Verdict.TheVariants.{Differs, Same, Unsettled};
 
-use crate::asking::{Nothing, claim_nothing, find, is_same};
+use crate::asking::{find, is_same};
 use crate::checking::{Tried, new_tried};
-use crate::content::MOMENT;
-use crate::verdict::Verdict;
+use crate::copying::copy_of;
+use crate::opening::{Nothing, claim_nothing};
 use diagram_program::Program;
 use diff_cases::{AlikeBuffers, AlikeQuestion, Target};
 use diff_matching::Matching;
+use diff_meaning::{Counted, MOMENT, Verdict, Witness};
 use diff_rungs::{InCommon, common};
 use invariant_cases::Writers;
 use scan_cycle::{Memory, State};
@@ -24,12 +26,13 @@ use std::marker::Model;
 
 /// Judges what two programs leave alike.
 ///
-/// It borrows the programs and what belongs together in them. Once made, it does not allocate.
+/// It borrows the programs, what belongs together in them and which states count. Once made, it does not allocate.
 #[derive(Drop)]
 pub struct Judge<'a> {
     old_program: &'a Program,
     new_program: &'a Program,
     matching: &'a Matching,
+    counted: &'a Counted,
     old_writers: Writers,
     new_writers: Writers,
     nothing: Nothing,
@@ -39,6 +42,7 @@ pub struct Judge<'a> {
 
 impl<'a> Model for Judge<'a> {
     ghost use Rattle.diff_cases.specs.Buffers.{AreAlikeBuffers};
+    ghost use Rattle.diff_meaning.specs.Counting.{AreOfPrograms};
     ghost use Rattle.diff_verdicts.specs.Judging.{AreTried, ClaimNothing, Judging};
 
     ghost Value = { Judging };
@@ -47,24 +51,26 @@ impl<'a> Model for Judge<'a> {
       old_program = j.old_program.now;
       new_program = j.new_program.now;
       matching = j.matching.now;
+      counted = j.counted.now;
       old_state = j.tried.old_state;
       new_state = j.tried.new_state;
     } };
 
     ghost invariant = { λ j. ClaimNothing j.old_program.now j.new_program.now j.nothing
-        × AreAlikeBuffers j.old_program.now j.new_program.now j.buffers × AreTried j.old_program.now j.new_program.now j.tried };
+        × AreAlikeBuffers j.old_program.now j.new_program.now j.buffers × AreTried j.old_program.now j.new_program.now j.tried
+        × AreOfPrograms j.counted.now j.old_program.now j.new_program.now };
 }
 
 /// The states that showed a difference, and the moment at which one scan of each does.
 #[derive(Clone, Copy)]
-pub struct Witness<'a> {
+pub struct ShownStates<'a> {
     pub moment: u64,
     pub old_state: &'a State,
     pub new_state: &'a State,
 }
 
 impl<'a> Judge<'a> {
-    /// A judge of two programs.
+    /// A judge of two programs, over all states that agree, or over those in which it is so what stays so in each program.
     ///
     /// # Errors
     ///
@@ -74,10 +80,13 @@ impl<'a> Judge<'a> {
         old: &'a Program,
         new: &'a Program,
         matching: &'a Matching,
+        counted: &'a Counted,
     ) -> Result<Judge<'a>, Memory>
+        requires { AreOfPrograms counted.now old.now new.now }
         ensures old { IfOk result (λ j. j.old_program ≡ old.now) }
         ensures new { IfOk result (λ j. j.new_program ≡ new.now) }
         ensures matching { IfOk result (λ j. j.matching ≡ matching.now) }
+        ensures counted { IfOk result (λ j. j.counted ≡ counted.now) }
     {
         let old_writers = Writers::new(alloc, old)?;
         let new_writers = Writers::new(alloc, new)?;
@@ -88,6 +97,7 @@ impl<'a> Judge<'a> {
             old_program: old,
             new_program: new,
             matching,
+            counted,
             old_writers,
             new_writers,
             nothing,
@@ -118,25 +128,56 @@ impl<'a> Judge<'a> {
     }
 
     /// The states of the last verdict that something differs. Before one they are any states of the programs.
-    pub fn witness(&self) -> Witness<'_>
+    pub fn witness(&self) -> ShownStates<'_>
         ensures moment { result.moment ≡ MOMENT }
         ensures old_state { result.old_state.now ≡ self.entry.now.old_state }
         ensures new_state { result.new_state.now ≡ self.entry.now.new_state }
     {
-        Witness {
+        ShownStates {
             moment: MOMENT,
             old_state: &self.tried.old_state,
             new_state: &self.tried.new_state,
         }
     }
 
+    /// Copies of those states, as a witness that one scan of each leaves these values of the target.
+    ///
+    /// # Errors
+    ///
+    /// `Memory` when out of memory.
+    pub(crate) fn copied(
+        &self,
+        alloc: Global,
+        target: Target,
+        of_old: bool,
+        of_new: bool,
+    ) -> Result<Witness, Memory>
+        ensures { IfOk result (λ w. w ≡ record {
+          target = target;
+          old_state = self.entry.now.old_state;
+          new_state = self.entry.now.new_state;
+          of_old = of_old;
+          of_new = of_new;
+        }) }
+    {
+        let old_state = copy_of(alloc, self.old_program, &self.tried.old_state)?;
+        let new_state = copy_of(alloc, self.new_program, &self.tried.new_state)?;
+        Ok(Witness {
+            target,
+            old_state,
+            new_state,
+            of_old,
+            of_new,
+        })
+    }
+
     /// Judges a target by at most so many looks for a proof, and as many for a difference; a look is a scan of each program.
     pub fn judge(&mut self, target: Target, looks: u32) -> Verdict
         requires target { CanBeJudged self.old.matching target }
-        ensures truth { IsTrueOf self.old.matching self.old.old_program self.old.new_program target result }
+        ensures truth { IsTrueOf self.old.counted self.old.matching self.old.old_program self.old.new_program target result }
         ensures shown { (a b : Bool) → result ≡ Differs a b
-            → Shows self.old.matching self.old.old_program self.old.new_program target self.new.old_state self.new.new_state a b }
-        ensures at_once { 0 < looks → IsToldAtOnce self.old.matching self.old.old_program self.old.new_program target → result ≡ Same }
+            → Shows self.old.counted self.old.matching self.old.old_program self.old.new_program target self.new.old_state self.new.new_state a b }
+        ensures at_once { 0 < looks → IsToldAtOnce self.old.counted self.old.matching self.old.old_program self.old.new_program target → result ≡ Same }
         ensures none { looks ≡ 0 → result ≡ Unsettled }
         ensures same { JudgesTheSame self.old self.new }
     {
@@ -148,11 +189,19 @@ impl<'a> Judge<'a> {
             matching: self.matching,
             target,
         };
-        if is_same(question, &self.nothing, &mut self.buffers, looks) {
+        let counted = self.counted;
+        let nothing = &self.nothing;
+        if is_same(question, counted, nothing, &mut self.buffers, looks) {
             return Verdict::Same;
         }
-        let nothing = &self.nothing;
-        match find(question, nothing, &mut self.buffers, &mut self.tried, looks) {
+        match find(
+            question,
+            counted,
+            nothing,
+            &mut self.buffers,
+            &mut self.tried,
+            looks,
+        ) {
             Some(ends) => Verdict::Differs {
                 old: ends.of_old,
                 new: ends.of_new,

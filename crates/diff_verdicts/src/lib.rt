@@ -1,17 +1,16 @@
-//! Verdicts on two programs: whether one scan of each leaves a thing alike from all states that agree, or which states show a difference.
+//! Verdicts on two programs: whether one scan of each leaves a thing alike from all states that agree and count, or which states show a difference.
 #![tactic(auto)]
 
 mod asking;
 mod candidate;
 mod checking;
 mod content;
+mod copying;
 mod judging;
-pub mod laws;
+mod opening;
 mod seeking;
-mod verdict;
+mod sorts;
 mod verdicts;
 
-pub use content::MOMENT;
-pub use judging::{Judge, Witness};
-pub use verdict::{Verdict, Verdicts};
-pub use verdicts::{are_all_same, judge_all};
+pub use judging::{Judge, ShownStates};
+pub use verdicts::{Judgement, judge_all};

@@ -1,9 +1,10 @@
-//! The search for two states that agree and of which one scan of each leaves the target different.
+//! The search for two states that agree and count and of which one scan of each leaves the target different.
 
 ghost use Rattle.std.specs.Prelude.{◌≡◌, ◌≤◌, IfSome, IsNone};
 ghost use Rattle.diff_cases.specs.Buffers.{AreAlikeBuffers};
+ghost use Rattle.diff_meaning.specs.Counting.{AreOfPrograms};
+ghost use Rattle.diff_meaning.specs.Verdicts.{Shows};
 ghost use Rattle.diff_verdicts.specs.Judging.{AreTried};
-ghost use Rattle.diff_verdicts.specs.Verdicts.{Shows};
 
 use crate::candidate::make;
 use crate::checking::{Ends, Tried, check};
@@ -15,6 +16,7 @@ use diff_cases::pinning::{pin_answer_in, pin_in};
 use diff_cases::{
     AlikeBuffers, AlikeQuestion, Joint, JointInstances, JointPoint, Likeness, Target,
 };
+use diff_meaning::Counted;
 use invariant_cases::Answer;
 use scan_signals::Tri;
 
@@ -88,15 +90,21 @@ fn take(
 }
 
 /// Tries states that the case allows.
-fn try_forms(question: AlikeQuestion<'_>, buffers: &AlikeBuffers, tried: &mut Tried) -> Option<Ends>
-    requires { AreTried question.old.now question.new.now tried.old }
-    ensures shown { IfSome result (λ ends. Shows question.entry.matching.now question.entry.old.now question.entry.new.now question.entry.target
+fn try_forms(
+    question: AlikeQuestion<'_>,
+    counted: &Counted,
+    buffers: &AlikeBuffers,
+    tried: &mut Tried,
+) -> Option<Ends>
+    requires counted { AreOfPrograms counted.now question.old.now question.new.now }
+    requires tried { AreTried question.old.now question.new.now tried.old }
+    ensures shown { IfSome result (λ ends. Shows counted.now question.entry.matching.now question.entry.old.now question.entry.new.now question.entry.target
         tried.new.old_state tried.new.new_state ends.of_old ends.of_new) }
     ensures tried { AreTried question.entry.old.now question.entry.new.now tried.new }
 {
     for number in 0..FORMS.len() {
         make(question, FORMS[number], buffers, tried);
-        let found = check(question, tried);
+        let found = check(question, counted, tried);
         if found.is_some() {
             return found;
         }
@@ -109,13 +117,15 @@ fn try_forms(question: AlikeQuestion<'_>, buffers: &AlikeBuffers, tried: &mut Tr
 #[cycle(seeking)]
 pub(crate) fn seek(
     question: AlikeQuestion<'_>,
+    counted: &Counted,
     buffers: &mut AlikeBuffers,
     tried: &mut Tried,
     looks: u32,
 ) -> Attempt
+    requires counted { AreOfPrograms counted.now question.old.now question.new.now }
     requires buffers { AreAlikeBuffers question.old.now question.new.now buffers.old }
     requires tried { AreTried question.old.now question.new.now tried.old }
-    ensures shown { IfSome result.found (λ ends. Shows question.entry.matching.now question.entry.old.now question.entry.new.now question.entry.target
+    ensures shown { IfSome result.found (λ ends. Shows counted.now question.entry.matching.now question.entry.old.now question.entry.new.now question.entry.target
         tried.new.old_state tried.new.new_state ends.of_old ends.of_new) }
     ensures none { looks ≡ 0 → IsNone result.found }
     ensures looks { result.looks ≤ looks }
@@ -132,7 +142,7 @@ pub(crate) fn seek(
     let likeness = look(question, buffers);
     if likeness == Likeness::Open {
         if let Some(joint) = next_joint(question, buffers) {
-            return by_cases(question, joint, buffers, tried, left);
+            return by_cases(question, counted, joint, buffers, tried, left);
         }
     }
     if likeness == Likeness::Alike && !have_other_presets(question) {
@@ -142,7 +152,7 @@ pub(crate) fn seek(
         };
     }
     Attempt {
-        found: try_forms(question, buffers, tried),
+        found: try_forms(question, counted, buffers, tried),
         looks: left,
     }
 }
@@ -151,14 +161,16 @@ pub(crate) fn seek(
 #[cycle(seeking)]
 fn by_cases(
     question: AlikeQuestion<'_>,
+    counted: &Counted,
     joint: Joint,
     buffers: &mut AlikeBuffers,
     tried: &mut Tried,
     looks: u32,
 ) -> Attempt
+    requires counted { AreOfPrograms counted.now question.old.now question.new.now }
     requires buffers { AreAlikeBuffers question.old.now question.new.now buffers.old }
     requires tried { AreTried question.old.now question.new.now tried.old }
-    ensures shown { IfSome result.found (λ ends. Shows question.entry.matching.now question.entry.old.now question.entry.new.now question.entry.target
+    ensures shown { IfSome result.found (λ ends. Shows counted.now question.entry.matching.now question.entry.old.now question.entry.new.now question.entry.target
         tried.new.old_state tried.new.new_state ends.of_old ends.of_new) }
     ensures looks { result.looks ≤ looks }
     ensures buffers { AreAlikeBuffers question.entry.old.now question.entry.new.now buffers.new }
@@ -167,7 +179,7 @@ fn by_cases(
     let mut left = looks;
     for case in 0..CASES.len() {
         if take(question, joint, CASES[case], buffers) {
-            let attempt = seek(question, buffers, tried, left);
+            let attempt = seek(question, counted, buffers, tried, left);
             if attempt.found.is_some() {
                 return attempt;
             }

@@ -6,8 +6,8 @@ use Rattle.diagram_program.specs.Program.{Drawing}
 use Rattle.diff_matching.specs.Names.{owner_of}
 use Rattle.diff_matching.specs.declared.owner.Owner.{Owner}
 use Rattle.diff_matching.specs.declared.owner.Owner.TheVariants as owner
-use Rattle.diff_verdicts.specs.declared.verdict.Verdict.{Verdict}
-use Rattle.diff_verdicts.specs.declared.verdict.Verdict.TheVariants.{Same, Differs, Unsettled}
+use Rattle.diff_meaning.specs.declared.verdict.Verdict.{Verdict}
+use Rattle.diff_meaning.specs.declared.verdict.Verdict.TheVariants.{Same, Differs, Unsettled}
 use Rattle.diff_findings.specs.declared.finding.Finding.{Finding}
 use Rattle.diff_findings.specs.declared.finding.Remark.{Remark}
 use Rattle.diff_findings.specs.declared.finding.Remark.TheVariants.{Judged, Initial, Preset, Moved, Alone}

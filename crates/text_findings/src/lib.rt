@@ -6,4 +6,5 @@ mod rows;
 mod value;
 mod write;
 
+pub use names::{mark_of, name_of};
 pub use write::write_findings;

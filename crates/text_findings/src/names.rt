@@ -19,7 +19,7 @@ fn edge_name(program: &Program, owner: Option<Owner>) -> &[u8]
 }
 
 /// The name of a subject.
-pub(crate) fn name_of<'a>(old: &'a Program, new: &'a Program, subject: Subject) -> &'a [u8]
+pub fn name_of<'a>(old: &'a Program, new: &'a Program, subject: Subject) -> &'a [u8]
     ensures { result.now ≡ name_of old.now new.now subject }
 {
     let number = subject.number;
@@ -33,7 +33,7 @@ pub(crate) fn name_of<'a>(old: &'a Program, new: &'a Program, subject: Subject) 
 }
 
 /// What stands behind the name.
-pub(crate) fn mark_of(sort: Sort) -> &'static [u8]
+pub fn mark_of(sort: Sort) -> &'static [u8]
     ensures { result.now ≡ mark_of sort }
 {
     match sort {

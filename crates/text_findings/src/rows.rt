@@ -9,7 +9,7 @@ use crate::names::{mark_of, name_of};
 use crate::value::{Value, add_value};
 use diagram_program::Program;
 use diff_findings::{Finding, Remark, Sort};
-use diff_verdicts::Verdict;
+use diff_meaning::Verdict;
 use io_text::{Sink, TextBuffer, WriteFault, add_field};
 use search_differences::Side;
 

@@ -1,6 +1,7 @@
 use Rattle.std.proofs.lemmas.Result.{err_from_is_err_and}
 use Rattle.clap.specs.Words.{found_of, rows_of}
-use Rattle.cli_arguments.proofs.Faults.{no_diff_of_inputs, no_diff_of_programs, usage_weaker}
+use Rattle.cli_arguments.proofs.Differing.{no_diff_of_inputs, no_diff_of_programs}
+use Rattle.cli_arguments.proofs.Faults.{usage_weaker}
 use Rattle.cli_arguments.proofs.comparing.diff_request.Goals as goal
 
 pub returns-in_err-all-clause-err : goal.returns-in_err-all-clause-err

@@ -1,6 +1,7 @@
 use Rattle.std.proofs.lemmas.Result.{err_from_is_err_and}
 use Rattle.clap.specs.Words.{found_of, rows_of}
-use Rattle.cli_arguments.proofs.Faults.{no_verdicts_of_forms, usage_weaker}
+use Rattle.cli_arguments.proofs.Differing.{no_verdicts_of_forms}
+use Rattle.cli_arguments.proofs.Faults.{usage_weaker}
 use Rattle.cli_arguments.proofs.comparing.verdict_request.Goals as goal
 
 pub returns-in_err-refuse_grouping-clause-err : goal.returns-in_err-refuse_grouping-clause-err

@@ -1,5 +1,6 @@
 use Rattle.clap.specs.Words.{found_of, rows_of}
-use Rattle.cli_arguments.proofs.Faults.{no_comparison, no_diff_without_coil, usage_weaker}
+use Rattle.cli_arguments.proofs.Differing.{no_diff_without_coil}
+use Rattle.cli_arguments.proofs.Faults.{no_comparison, usage_weaker}
 use Rattle.cli_arguments.proofs.comparing.verdict_task.Goals as goal
 
 pub returns-in-Err-clause-err : goal.returns-in-Err-clause-err

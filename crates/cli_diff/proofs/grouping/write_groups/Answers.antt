@@ -1,7 +1,7 @@
 use Rattle.std.proofs.Common.{inr}
 use Rattle.text_differences.specs.GroupText.{difference_group_text, new_rows_of, old_rows_of}
 use Rattle.cli_questions.specs.Query.{question_of}
-use Rattle.cli_diff.proofs.Forms.{groups_are, groups_counted}
+use Rattle.cli_diff.proofs.Forms.{groups_are, groups_counted, no_cause}
 use Rattle.cli_diff.proofs.grouping.write_groups.Goals as goal
 
 pub returns-in-Ok-written : goal.returns-in-Ok-written
@@ -15,8 +15,8 @@ returns-in-Ok-written g c =
     let w = c.in-Ok-written in (
       difference_group_text c.form_of-form.result old.asked_old.program old.asked_old.listed (old_rows_of limit old) (new_rows_of limit old new),
       (
-        made.old_accepted,
-        made.new_accepted,
+        no_cause _ made.old_accepted,
+        no_cause _ made.new_accepted,
         (
           groups_are limit q r old new made.rows c.in-Ok-groups_of.ensures.rows c.form_of-form.result c.args.grouping.form c.form_of-form.ensures made.old,
           groups_counted limit q r old new made.rows c.in-Ok-groups_of.ensures.rows w.summary.rows w.summary.differences w.ensures.rows w.ensures.differences,
@@ -38,8 +38,8 @@ returns-in-Err-written g c =
       (
         difference_group_text c.form_of-form.result old.asked_old.program old.asked_old.listed (old_rows_of limit old) (new_rows_of limit old new),
         (
-          made.old_accepted,
-          made.new_accepted,
+          no_cause _ made.old_accepted,
+          no_cause _ made.new_accepted,
           (groups_are limit q r old new made.rows c.in-Ok-groups_of.ensures.rows c.form_of-form.result c.args.grouping.form c.form_of-form.ensures made.old, tt),
         ),
         c.in-Err-written.ensures.bytes,

@@ -1,6 +1,6 @@
 use Rattle.std.proofs.Common.{◌≡◌}
 use Rattle.scan_cycle.specs.Standing.{Fits}
-use Rattle.diff_verdicts.specs.declared.content.TheConstants.{MOMENT}
+use Rattle.diff_meaning.specs.declared.verdict.TheConstants.{MOMENT}
 use Rattle.diff_verdicts.proofs.candidate.set_blocks.Given as goal
 
 abbrev pub invariant-loop-inst : goal.invariant-loop-inst

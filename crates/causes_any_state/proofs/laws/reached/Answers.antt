@@ -1,5 +1,0 @@
-use Rattle.causes_any_state.proofs.Running.{runs_stay}
-use Rattle.causes_any_state.proofs.laws.reached.Goals as goal
-
-pub returns : goal.returns
-returns c = runs_stay c.args.program.now c.checked.ensures c.stays_so.ensures

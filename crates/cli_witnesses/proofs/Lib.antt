@@ -1,0 +1,4 @@
+mod Kept
+mod Named
+mod Rows
+mod Saved

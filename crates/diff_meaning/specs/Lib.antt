@@ -1,0 +1,4 @@
+pub mod Counting
+pub mod Verdicts
+pub mod Witnesses
+pub mod Laws

@@ -1,0 +1,26 @@
+//! Laws over the definitions: each function does nothing, and its contract is the law.
+
+ghost use Rattle.diff_meaning.specs.Laws.{EquivalentWhereSame, FreshRunsAgree};
+
+use diagram_program::Program;
+use invariant_sets::laws::stays_so;
+use scan_cycle::scene::checked;
+
+/// Where all that belongs together in two programs is left alike, they are equivalent.
+pub fn equivalent_where_same(old: &Program, new: &Program)
+    ensures { EquivalentWhereSame old.now new.now }
+{
+    let _old = old;
+    let _new = new;
+}
+
+/// The same, from the fresh states on: where those agree, and what makes a state count stays so from them on, the programs agree after each scan
+/// of any runs.
+pub fn fresh_runs_agree(old: &Program, new: &Program)
+    ensures { FreshRunsAgree old.now new.now }
+{
+    checked(old);
+    checked(new);
+    stays_so(old);
+    stays_so(new);
+}

@@ -1,5 +1,0 @@
-use Rattle.diff_verdicts.proofs.Equivalent.{equivalent}
-use Rattle.diff_verdicts.proofs.laws.equivalent_where_same.Goals as goal
-
-pub returns : goal.returns
-returns c = equivalent c.args.old.now c.args.new.now

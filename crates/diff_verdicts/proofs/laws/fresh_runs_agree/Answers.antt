@@ -1,5 +1,0 @@
-use Rattle.diff_verdicts.proofs.Equivalent.{fresh_agree}
-use Rattle.diff_verdicts.proofs.laws.fresh_runs_agree.Goals as goal
-
-pub returns : goal.returns
-returns c = fresh_agree c.args.old.now c.args.new.now c.runs_agree.ensures
