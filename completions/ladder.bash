@@ -43,7 +43,7 @@ _ladder() {
         import) options='--open --control --hal --why --help' ;;
         never) options='--state --off --pairs --quiet --aliases --why --help' ;;
         reach) options='--state --at --every --scans --states --both --gap --progress --why --help' ;;
-        diff) options='--state --new-state --at --after --upto --limit --grouped --terms --st --looks --all-inputs --quiet --aliases --why --help' ;;
+        diff) options='--state --new-state --at --after --upto --limit --scans --for --every --grouped --terms --st --looks --reachable --save --all-inputs --quiet --aliases --why --help' ;;
         explain) options='--help' ;;
         help)
             mapfile -t COMPREPLY < <(compgen -W 'check causes show sim uses never reach diff import explain' -- "$word")
@@ -67,7 +67,8 @@ _ladder() {
         esac
     done
     case $before in
-        --state | --new-state | --save | --stimulus | --hal) mapfile -t COMPREPLY < <(compgen -f -- "$word") ;;
+        --save) if [[ $subcommand == diff ]]; then mapfile -t COMPREPLY < <(compgen -d -- "$word"); else mapfile -t COMPREPLY < <(compgen -f -- "$word"); fi ;;
+        --state | --new-state | --stimulus | --hal) mapfile -t COMPREPLY < <(compgen -f -- "$word") ;;
         --at | --after | --upto | --limit | --scans | --for | --every | --looks | --number | --states | --gap) ;;
         --all-coils) mapfile -t COMPREPLY < <(compgen -d -- "$word") ;;
         --order) mapfile -t COMPREPLY < <(compgen -W 'auto given' -- "$word") ;;

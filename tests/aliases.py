@@ -59,7 +59,8 @@ def requests(text, dice):
     listed = inputs[:MOST_INPUTS]
     rows = [f"{100 * number}," + ",".join(str(dice.randint(0, 1)) for _ in inputs) for number in range(40)]
     stimulus = "\n".join([",".join(["moment", *inputs]), *rows]) + "\n"
-    asked = [["uses", "t.ld"], ["never", "t.ld"], ["never", "--pairs", "t.ld"], ["diff", "t.ld", "t.ld"], ["sim", "t.ld", "s.csv"], ["sim", "--watch-all", "t.ld", "s.csv"]]
+    asked = [["uses", "t.ld"], ["never", "t.ld"], ["never", "--pairs", "t.ld"], ["diff", "t.ld", "t.ld"], ["diff", "--reachable", "t.ld", "t.ld"],
+             ["sim", "t.ld", "s.csv"], ["sim", "--watch-all", "t.ld", "s.csv"]]
     for coil in coils:
         asked += [
             ["causes", "--limit", "99", "t.ld", coil, *listed],
@@ -69,6 +70,8 @@ def requests(text, dice):
             ["causes", "--any", "--limit", "9", "t.ld", coil, *listed[:3]],
             ["causes", "--any", "--runs", "--limit", "3", "t.ld", coil, *listed[:2]],
             ["diff", "t.ld", "t.ld", coil, *listed],
+            ["diff", "--grouped", "t.ld", "t.ld", coil, *listed],
+            ["diff", "--scans", "9", "--every", "700", "t.ld", "t.ld", coil, *listed],
             ["reach", "t.ld", coil],
         ]
     return asked, stimulus

@@ -39,6 +39,7 @@ REQUESTS = (
     (("show", "--state", "running.csv", "motor.ld", "Start", "Stop"), 0),
     (("diff", "--state", "running.csv", "motor.ld", "either.ld", "Motor", "Start", "Stop"), 0),
     (("diff", "--grouped", "motor.ld", "either.ld", "Motor", "Start", "Stop"), 0),
+    (("diff", "--scans", "3", "motor.ld", "either.ld", "Motor", "Start", "Stop"), 0),
     (("diff", "motor.ld", "either.ld"), 0),
     (("reach", "--state", "running.csv", "motor.ld", "Motor", "Start"), 0),
     (("reach", "--every", "10", "rhythm.ld", "Y"), 0),

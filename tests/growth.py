@@ -3,8 +3,9 @@
 
 Each request below is first made whole, which counts its growths (refuse_growth.c, loaded before the C library), and then once for
 each of them, with that one refused. A request is answered whole in spite of it, or it ends by one of the lines for being out of
-memory, with nothing written but whole lines of a trace, and nothing saved; a row that is asked of the runs may also be left open. The last record of long.csv is longer than the ones before
-it, so memory grows in the middle of its trace. Then a list with all its rows must make as many growths as the same list with none, and one
+memory, with nothing written but whole lines of a trace, and nothing saved; a row that is asked of the runs may also be left open, and states
+that show a difference are saved after all rows. The last record of long.csv is longer than the ones before it, so memory grows in the middle
+of its trace. Then a list with all its rows must make as many growths as the same list with none, and one
 must come whole where each growth after its cursor is made is refused.
 Without a C compiler the toolchain's own is taken; where there is none at all, nothing is tried, and the last line says so.
 """
@@ -21,6 +22,7 @@ from compiling import compiled
 HERE = pathlib.Path(__file__).resolve().parent
 TEXTS = {
     "motor.ld": (HERE / "programs" / "motor.ld").read_bytes(),
+    "either.ld": (HERE / "programs" / "motor.ld").read_bytes().replace(b"|/|", b"| |"),
     "counter.ld": (HERE / "programs" / "counter.ld").read_bytes(),
     "rhythm.ld": (HERE / "programs" / "rhythm.ld").read_bytes(),
     "lamp.clp": (HERE / "projects" / "lamp.clp").read_bytes(),
@@ -61,7 +63,10 @@ REQUESTS = (
     (("sim", "--state", "running.csv", "--save", "saved.csv", "motor.ld", "long.csv"), ("fault V9\n", "fault X7\n")),
     (("diff", "--state", "running.csv", "motor.ld", "motor.ld", "Motor", "Start", "Stop"), BOTH),
     (("diff", "--grouped", "--all-inputs", "motor.ld", "motor.ld", "Motor"), BOTH),
+    (("diff", "--scans", "3", "--state", "running.csv", "motor.ld", "motor.ld", "Motor", "Start", "Stop"), BOTH),
     (("diff", "motor.ld", "counter.ld"), ("fault old V9\n", "fault new V9\n", "fault X7\n")),
+    (("diff", "--reachable", "motor.ld", "counter.ld"), ("fault old V9\n", "fault new V9\n", "fault X7\n")),
+    (("diff", "--quiet", "--save", "states", "motor.ld", "either.ld"), ("fault old V9\n", "fault new V9\n", "fault X7\n")),
     (("reach", "--state", "running.csv", "motor.ld", "Motor", "Start"), ("fault V9\n", "fault X7\n")),
     (("reach", "rhythm.ld", "Y"), ("fault V9\n", "fault X7\n")),
     (("reach", "--every", "100", "rhythm.ld", "Y"), ("fault V9\n", "fault X7\n")),
@@ -88,6 +93,12 @@ def is_refused(words, whole, ending):
     return ending.status == 1 and ending.err in LINES + BOTH and is_prefix and ending.saved is None
 
 
+def is_unsaved(words, whole, ending):
+    """Whether all rows are there, and what is to be saved isn't: a file that can't be opened for want of memory is a failed write."""
+    lines = set(ending.err.splitlines())
+    return words[0] == "diff" and "--save" in words and ending.status == 1 and ending.out == whole.out and lines and lines <= {"fault X6", "fault X7"}
+
+
 def is_left_open(words, whole, ending):
     """Whether all rows are there, and of some that a run comes to this isn't told."""
     rows = list(zip(whole.out.splitlines(), ending.out.splitlines()))
@@ -103,7 +114,7 @@ def tried(program, library, words, wanted, counted):
     with ThreadPoolExecutor(os.cpu_count()) as pool:
         endings = list(pool.map(lambda number: ended(program, library, words, number), range(1, growths + 1)))
     wrong = [f"{' '.join(words)}, growth {number}: {ending}"
-             for number, ending in enumerate(endings, 1) if ending != whole and not is_refused(words, whole, ending) and not is_left_open(words, whole, ending)]
+             for number, ending in enumerate(endings, 1) if ending != whole and not any(is_so(words, whole, ending) for is_so in (is_refused, is_unsaved, is_left_open))]
     lines = collections.Counter(ending.err for ending in endings if ending != whole)
     wrong += [f"{' '.join(words)}: {line.strip()} never comes" for line in wanted if not lines[line]]
     if "long.csv" in words and not any(ending.out for ending in endings if ending != whole):

@@ -4,7 +4,10 @@
 Each trial is a random drawing and a change of it, as in `differing.py`. The rows must be those of the names that both declare, in their
 order. No `same` may be contradicted: from random states that agree on what belongs together, one scan of each by `running.py` must leave it
 alike. Where the programs are said to be equivalent, runs with random inputs from the fresh states must leave all of it alike, scan by scan;
-and where a run tells them apart, or they begin differently, it mustn't be said.
+and where a run tells them apart, or they begin differently, it mustn't be said. With `--save` each row `differs` has its states: they must
+agree, and one scan of each by `running.py`, at the moment of the stimulus and with its inputs, must leave what the row says; `sim` must read
+all three. With `--reachable` no `same` may be contradicted by the next scan of states that runs reach and that agree, what is saved must be
+as `never` lists it, and what is the same from all states must be the same.
 """
 import argparse
 import concurrent.futures
@@ -31,6 +34,23 @@ def addresses_of(text):
     """The address of each variable that has one, in its shortest form."""
     found = ADDRESS.findall(text.partition("END_VAR")[0])
     return {name.upper(): f"%{letter.upper()}X{int(first)}" + (f".{int(second)}" if second else "") for name, letter, first, second in found}
+
+
+def contradicted_in_runs(chance, pair, same):
+    """Names that are the same by the program, and that the next scan leaves different from states that runs reach and that agree."""
+    first, second, moment = Running(pair.old), Running(pair.new), 0
+    for _ in range(30):
+        values = {name: chance.random() < 0.5 for name in pair.new.inputs}
+        begun = pair.different(first, second)
+        first.scan({name: value for name, value in values.items() if name in pair.old.inputs}, moment)
+        second.scan(values, moment)
+        if begun:
+            return []
+        for name in same:
+            if not pair.alike(first, second, name):
+                return [f"{name} is no same in runs: at {moment}"]
+        moment += chance.choice([0, 1, 2, 7, 6000])
+    return []
 
 
 class Pair:
@@ -182,6 +202,40 @@ def told_apart(chance, pair):
     return False
 
 
+# ---- saved states
+
+def loaded(program, text):
+    """A state as `sim --save` writes it, and its moment."""
+    state, moment = Running(program), 0
+    for kind, *fields in (line.split(",") for line in text.splitlines()):
+        if kind == "moment":
+            moment = int(fields[0])
+        elif kind == "var":
+            state.values[fields[0].upper()] = fields[1] == "1"
+        elif kind == "memory":
+            rung, row, column = map(int, fields[:3])
+            state.memories[rung - 1, row, column] = fields[3] == "1"
+        elif kind == "timer":
+            name, last, runs, start, q = fields
+            put(state, name.upper(), (last == "1", int(start) if runs == "1" else None, q == "1"))
+        elif kind == "counter":
+            name, last, count, q = fields
+            put(state, name.upper(), (last == "1", int(count), q == "1"))
+        elif kind == "bistable":
+            put(state, fields[0].upper(), (fields[1] == "1",))
+    return state, moment
+
+
+def left_by(state, name):
+    """What a row has of a name: its value, or the output of the block."""
+    return state.values[name + ".Q" if name in instances_of(state.program) else name]
+
+
+def disagree(pair, first, second):
+    """What belongs together and isn't the same, inputs too."""
+    return pair.different(first, second) + [name for name in pair.variables if name in pair.new.inputs and first.values[name] != second.values[name]]
+
+
 class Trial:
     """A drawing and a change of it, which are judged."""
 
@@ -203,7 +257,7 @@ class Trial:
         pair = Pair(self.texts["old"], self.texts["new"])
         if not pair.old.rungs or not pair.new.rungs:
             return None
-        out, err, status = run(self.tool, ["diff", "old.ld", "new.ld"], self.folder)
+        out, err, status = run(self.tool, ["diff", "--save", "saved", "old.ld", "new.ld"], self.folder)
         rows = [line.split(",") for line in out.decode().splitlines()]
         if status or rows[0] != ["name", "result", "old", "new"]:
             return [f"status {status}", out.decode(), err.decode()]
@@ -223,6 +277,70 @@ class Trial:
             found.append("no equivalents")
         if self.texts["old"] == self.texts["new"] and not equivalent:
             found.append("a program is equivalent with itself")
+        return found + self.wrong_witnesses(pair, rows, "saved") + self.wrong_reachable(pair, same, apart, tally)
+
+    def wrong_witnesses(self, pair, rows, folder):
+        """Where the saved states don't show what the rows say."""
+        found, seen = [], Counter()
+        for name, word, *ends in rows:
+            if word == "differs":
+                seen[name] += 1
+                found += self.wrong_witness(pair, name, ends, f"{folder}/{name}" + (f" {seen[name]}" if seen[name] > 1 else ""))
+        files = sorted(os.listdir(os.path.join(self.folder, folder))) if os.path.isdir(os.path.join(self.folder, folder)) else []
+        return found + ([f"files {files}"] if len(files) != 3 * seen.total() else [])
+
+    def wrong_witness(self, pair, name, ends, path):
+        sides = {"old": pair.old, "new": pair.new}
+        (first, moment), (second, other) = (loaded(program, pathlib.Path(self.folder, f"{path}.{side}.csv").read_text()) for side, program in sides.items())
+        header, record = pathlib.Path(self.folder, path + ".csv").read_text().splitlines()
+        at, *bits = record.split(",")
+        inputs = {key.upper(): bit == "1" for key, bit in zip(header.split(",")[1:], bits)}
+        found = [f"{path}: {name} isn't shared" for name in disagree(pair, first, second)]
+        if moment > int(at) or other > int(at) or any(state.values[key] != value for state in (first, second) for key, value in inputs.items()):
+            found.append(f"{path}: {record} isn't of the states")
+        for state, side in ((first, "old"), (second, "new")):
+            done = run(self.tool, ["sim", "--state", f"{path}.{side}.csv", "--save", "after.csv", side + ".ld", path + ".csv"], self.folder)
+            state.scan(inputs, int(at))
+            after = None if done[2] else loaded(sides[side], pathlib.Path(self.folder, "after.csv").read_text())[0]
+            if after is None or any(state.values[key] != after.values[key] for key in sides[side].variables):
+                found.append(f"{path}: {side} scans otherwise, or it isn't read: {done}")
+        if name.endswith(" edge"):
+            return found + ([] if any(isinstance(each, tuple) for each in pair.different(first, second)) else [f"{path} shows no difference"])
+        left = [str(int(left_by(state, name.upper()))) for state in (first, second)]
+        return found + ([] if left == ends and not pair.alike(first, second, name.upper()) else [f"{path} leaves {left}, not {ends}"])
+
+    def wrong_reachable(self, pair, same, apart, tally):
+        """What is wrong where only states count that runs may reach."""
+        out, err, status = run(self.tool, ["diff", "--reachable", "--save", "reached", "old.ld", "new.ld"], self.folder)
+        rows = [line.split(",") for line in out.decode().splitlines()][1:]
+        if status:
+            return [f"--reachable: status {status}", err.decode()]
+        tally["same among reachable states alone"] += sum(row[1] == "same" for row in rows) - len(same)
+        found = wrong_rows(pair, rows) + self.wrong_witnesses(pair, rows, "reached")
+        found += [f"{name} is the same from all states" for name in same if [row[1] for row in rows if row[0].upper() == name and row[1] in ("differs", "?")]]
+        if err.endswith(b"\nequivalent\n"):
+            tally["equivalent among reachable states"] += 1
+            found += ["no equivalents among reachable states"] if apart else []
+        kept = [row[0].upper() for row in rows if row[1] == "same"]
+        for _ in range(5):
+            found += contradicted_in_runs(self.chance, pair, kept)
+        return found + self.wrong_claims(rows)
+
+    def wrong_claims(self, rows):
+        """Where a saved state isn't as `never` lists it."""
+        found = []
+        for side in ("old", "new"):
+            never, off, pairs = (run(self.tool, ["never", *option, side + ".ld"], self.folder)[0].decode().splitlines()[1:]
+                                 for option in ([], ["--off"], ["--pairs"]))
+            names = [{line.split(",")[0].upper() for line in lines} for lines in (never, off)]
+            program = Program(self.texts[side])
+            for path in pathlib.Path(self.folder).glob(f"reached/*.{side}.csv"):
+                state, _ = loaded(program, path.read_text())
+                on = {name for name in (*program.variables, *instances_of(program)) if left_by(state, name)}
+                on |= {name + output for name in on for output in (".Q", ".Q1")}
+                bad = (on & names[0]) | (names[1] - on)
+                bad |= {line for line in pairs if set(line.upper().split(",")) <= on}
+                found += [f"{path.name}: never {bad}"] if bad else []
         return found
 
 
