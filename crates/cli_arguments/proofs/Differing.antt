@@ -1,9 +1,9 @@
 -- Why the words of `diff` ask for nothing.
-use Rattle.std.proofs.Common.{Bool, List, None, Option, codes, map, string_bytes, ℕ}
+use Rattle.std.proofs.Common.{Bool, false, List, [], None, Option, codes, map, string_bytes, ℕ}
 use Rattle.clap.specs.Words.{Row, Text}
 use Rattle.cli_arguments.proofs.Faults.{given_at_all, lasts}
-use Rattle.cli_arguments.specs.Asking.{HasDiffForm, HasEvery, HasFlag, HasForm, HasInputs, HasLasting, HasOption, HasOrder, IsTable, NamesNoSearch}
-use Rattle.cli_arguments.specs.Parts.{HasPrograms, IsOfOneScan, MayLast, NamesNoDiff, NamesNoVerdicts}
+use Rattle.cli_arguments.specs.Asking.{HasDiffForm, HasEvery, HasFlag, HasForm, HasInputs, HasLasting, HasOption, HasOrder, IsTable, NamesNoRunSearch, NamesNoScan, NamesNoSearch}
+use Rattle.cli_arguments.specs.Parts.{HasPrograms, IsOfOneScan, MayLast, NamesNoDiff, NamesNoDiffRuns, NamesNoVerdicts}
 use Rattle.cli_arguments.specs.declared.comparing.Programs.{Programs}
 use Rattle.cli_arguments.specs.declared.lasting.Lasting.{Lasting}
 use Rattle.cli_arguments.specs.declared.request.DiffForm.{DiffForm}
@@ -17,19 +17,22 @@ HasNoDiffForm rows = (f : DiffForm) → HasDiffForm rows f → ⊥
 
 -- Groups are those of one scan, and a list of them has no part.
 pub no_diff_groups : (rows : List Row) → HasFlag (codes "grouped") rows → (IsOfOneScan rows → ⊥) → HasNoDiffForm rows
-no_diff_groups rows grouped none (diff.Rows after upto) h = h.0.0 grouped
+no_diff_groups rows grouped none (diff.Rows after upto) h = h.0.0.0 grouped
+no_diff_groups rows grouped none (diff.Progress after upto) h = h.0.0.0 grouped
 no_diff_groups rows grouped none (diff.Held scans every) h = h.0.0 grouped
 no_diff_groups rows grouped none (diff.Groups g) h = none (h.1.0, h.1.1, h.1.2, (h.3.0, (h.3.1, h.3.2)))
 
 -- one scan, or several
 pub no_diff_of_lasting : (rows : List Row) → (HasFlag (codes "grouped") rows → ⊥) → ((o : Option Lasting) → MayLast o rows → ⊥) → HasNoDiffForm rows
-no_diff_of_lasting rows single none (diff.Rows after upto) h = none None (h.1.0, h.1.1)
+no_diff_of_lasting rows single none (diff.Rows after upto) h = none None (h.0.1.0, h.0.1.1)
+no_diff_of_lasting rows single none (diff.Progress after upto) h = none None (h.0.1.0, h.0.1.1)
 no_diff_of_lasting rows single none (diff.Held scans every) h = let l = lasts rows scans every h.1 in none l.0 l.1
 no_diff_of_lasting rows single none (diff.Groups g) h = single h.0
 
 -- The period is asked for beside several scans alone.
 pub no_held_diff_of_every : (rows : List Row) → IsTable rows → (l : Lasting) → HasLasting l rows → ((every : ℕ) → HasEvery every rows → ⊥) → HasNoDiffForm rows
-no_held_diff_of_every rows table l some none (diff.Rows after upto) h = given_at_all rows l some h.1.0 h.1.1
+no_held_diff_of_every rows table l some none (diff.Rows after upto) h = given_at_all rows l some h.0.1.0 h.0.1.1
+no_held_diff_of_every rows table l some none (diff.Progress after upto) h = given_at_all rows l some h.0.1.0 h.0.1.1
 no_held_diff_of_every rows table l some none (diff.Held scans every) h = none every h.2
 no_held_diff_of_every rows table l some none (diff.Groups g) h = table.0 h.0
 
@@ -48,5 +51,25 @@ no_diff_with_search rows search r h = search h.12
 pub no_verdicts_with_coil : (rows : List Row) → (HasOption (codes "coil") rows None → ⊥) → NamesNoVerdicts rows
 no_verdicts_with_coil rows coil r h = coil h.0
 
-pub no_verdicts_of_forms : (rows : List Row) → (HasForm Table rows → HasOrder Given rows → ⊥) → NamesNoVerdicts rows
-no_verdicts_of_forms rows forms r h = forms h.2.6.1 h.2.6.2
+-- ---- all names
+
+pub not_all_of_forms : (rows : List Row) → (HasForm Table rows → HasOrder Given rows → ⊥) → HasInputs rows false [] → NamesNoScan rows → ⊥
+not_all_of_forms rows forms inputs scan = forms scan.6.1 scan.6.2
+
+pub no_verdicts_of_names : (rows : List Row) → (HasInputs rows false [] → NamesNoScan rows → ⊥) → NamesNoVerdicts rows
+no_verdicts_of_names rows none r h = none h.1 h.2
+
+pub no_verdicts_of_runs : (rows : List Row) → (NamesNoRunSearch rows → ⊥) → NamesNoVerdicts rows
+no_verdicts_of_runs rows search r h = search h.3
+
+pub no_verdicts_with_runs : (rows : List Row) → HasFlag (codes "runs") rows → NamesNoVerdicts rows
+no_verdicts_with_runs rows runs r h = h.3.0 runs
+
+pub no_diff_runs_with_coil : (rows : List Row) → (HasOption (codes "coil") rows None → ⊥) → NamesNoDiffRuns rows
+no_diff_runs_with_coil rows coil r h = coil h.0
+
+pub no_diff_runs_of_names : (rows : List Row) → (HasInputs rows false [] → NamesNoScan rows → ⊥) → NamesNoDiffRuns rows
+no_diff_runs_of_names rows none r h = none h.1 h.2
+
+pub no_diff_runs_without : (rows : List Row) → (HasFlag (codes "runs") rows → ⊥) → NamesNoDiffRuns rows
+no_diff_runs_without rows runs r h = runs h.3

@@ -6,7 +6,7 @@ use Rattle.std.proofs.lemmas.Slice.Eq.{bytes_eq-Decides}
 use Rattle.clap.specs.Words.{Row, Text, all_of, first_of}
 use Rattle.cli_options.specs.Pages.{is_fault_code}
 use Rattle.cli_arguments.specs.Asking.{Asks, AsksNone, HasCoil, HasControl, HasEvery, HasExcluded, HasFlag, HasForm, HasGrouping, HasInputs, HasLasting, HasNoTask, HasNumber, HasOption, HasOrder, HasPace, HasRuns, HasScans, HasSwitch, HasWatched, IsNamed, IsOfOneState, IsPlain, IsSingle, IsTable, IsWhole, MayGroup, MayHaveLimit, NamesCauses, NamesList, NamesTrace, input_texts, inputs_for}
-use Rattle.cli_arguments.specs.Parts.{IsOfAnyState, IsOfOneScan, IsOfRecords, IsUncut, MayLast, NamesNoDiff, NamesNoEnd, NamesNoRuns, NamesNoStates, NamesNoVerdicts, NamesScan, Plays}
+use Rattle.cli_arguments.specs.Parts.{IsOfAnyState, IsOfOneScan, IsOfRecords, IsUncut, MayLast, NamesNoDiff, NamesNoDiffRuns, NamesNoEnd, NamesNoRuns, NamesNoStates, NamesNoVerdicts, NamesScan, Plays}
 use Rattle.cli_arguments.specs.Faults.{UsageWhere}
 use Rattle.cli_arguments.specs.declared.request.GroupFormat.{GroupFormat}
 use Rattle.cli_arguments.specs.declared.request.GroupFormat.TheVariants.{Statement, Table, Terms}
@@ -33,7 +33,7 @@ use Rattle.cli_arguments.specs.declared.lasting.Lasting.TheVariants.{Count, Unti
 use Rattle.cli_arguments.specs.declared.request.Request.TheVariants.{Causes, Check, Film, Groups, Held, Import, Never, Possible, Progress, Reach, Relevant, Show, Sim, Uses, Watch, Waves}
 use Rattle.cli_arguments.specs.declared.request.WordFault.{WordFault}
 use Rattle.cli_arguments.specs.declared.request.WordFault.TheVariants.{Help, Memory, Mistake, Usage}
-use Rattle.cli_arguments.specs.declared.request.Task.TheVariants.{Compare, Explain, Judge, Perform, PerformAll}
+use Rattle.cli_arguments.specs.declared.request.Task.TheVariants.{Compare, Explain, Judge, JudgeRuns, Perform, PerformAll}
 
 pub usage_weaker : {P Q : Type 0} (e : WordFault) → (P → Q) → UsageWhere P e → UsageWhere Q e
 usage_weaker Usage f p = f p
@@ -113,6 +113,7 @@ no_pages rows names given none (Perform line) h = explains_alone rows line.reque
 no_pages rows names given none (PerformAll all) h = explains_alone rows all.line.request h.0.0
 no_pages rows names given none (Compare r) h = apart (codes "explain") (codes "diff") refl h.0
 no_pages rows names given none (Judge r) h = apart (codes "explain") (codes "diff") refl h.0
+no_pages rows names given none (JudgeRuns r) h = apart (codes "explain") (codes "diff") refl h.0
 no_pages rows names given none (Explain other) h =
     let same = all_codes_of names ∙ ap (λ texts. list_all is_fault_code texts) (sym given ∙ h.1.0) ∙ sym (all_codes_of other.items) in
     let bad = sym none ∙ same ∙ h.1.1 in
@@ -602,9 +603,10 @@ compares_alone rows = by_subcommand (codes "diff") rows (apart (codes "diff") (c
     (apart (codes "diff") (codes "sim") refl) (apart (codes "diff") (codes "uses") refl) (apart (codes "diff") (codes "never") refl) (apart (codes "diff") (codes "reach") refl) (apart (codes "diff") (codes "import") refl)
 
 -- It asks for nothing where no comparison is named, of a coil or of all names.
-pub no_comparison : (rows : List Row) → NamesNoDiff rows → NamesNoVerdicts rows → HasNoTask (codes "diff") rows
-no_comparison rows none nothing (Perform line) h = compares_alone rows line.request h.0.0
-no_comparison rows none nothing (PerformAll all) h = compares_alone rows all.line.request h.0.0
-no_comparison rows none nothing (Compare r) h = none r h.1
-no_comparison rows none nothing (Judge r) h = nothing r h.1
-no_comparison rows none nothing (Explain names) h = apart (codes "diff") (codes "explain") refl h.0
+pub no_comparison : (rows : List Row) → NamesNoDiff rows → NamesNoVerdicts rows → NamesNoDiffRuns rows → HasNoTask (codes "diff") rows
+no_comparison rows none nothing no_runs (Perform line) h = compares_alone rows line.request h.0.0
+no_comparison rows none nothing no_runs (PerformAll all) h = compares_alone rows all.line.request h.0.0
+no_comparison rows none nothing no_runs (Compare r) h = none r h.1
+no_comparison rows none nothing no_runs (Judge r) h = nothing r h.1
+no_comparison rows none nothing no_runs (JudgeRuns r) h = no_runs r h.1
+no_comparison rows none nothing no_runs (Explain names) h = apart (codes "diff") (codes "explain") refl h.0

@@ -11,6 +11,7 @@ use Rattle.cli_arguments.specs.declared.lasting.Lasting.TheVariants.{Count, Unti
 use Rattle.cli_arguments.specs.declared.request.DiffForm.{DiffForm}
 use Rattle.cli_arguments.specs.declared.request.DiffForm.TheVariants as diff
 use Rattle.cli_arguments.specs.declared.request.DiffRequest.{DiffRequest}
+use Rattle.cli_arguments.specs.declared.request.DiffRunsRequest.{DiffRunsRequest}
 use Rattle.cli_arguments.specs.declared.request.Excluded.{Excluded}
 use Rattle.cli_arguments.specs.declared.request.Excluded.TheVariants as excluded
 use Rattle.cli_arguments.specs.declared.request.GroupFormat.{GroupFormat}
@@ -29,7 +30,7 @@ use Rattle.cli_arguments.specs.declared.request.Request.TheVariants.{Causes, Che
 use Rattle.cli_arguments.specs.declared.request.RunsWanted.{RunsWanted}
 use Rattle.cli_arguments.specs.declared.request.SimRequest.{SimRequest}
 use Rattle.cli_arguments.specs.declared.request.Task.{Task}
-use Rattle.cli_arguments.specs.declared.request.Task.TheVariants.{Compare, Explain, Judge, Perform, PerformAll}
+use Rattle.cli_arguments.specs.declared.request.Task.TheVariants.{Compare, Explain, Judge, JudgeRuns, Perform, PerformAll}
 use Rattle.cli_arguments.specs.declared.request.VerdictRequest.{VerdictRequest}
 
 abbrev pub HasText : Text → List Row → List ℕ → Type 0
@@ -344,16 +345,25 @@ Asks name rows (Import opened control_on file hal) = (name ≡ codes "import")
 abbrev pub HasNoPart : List Row → Type 0
 HasNoPart rows = HasNumber (codes "after") rows None × HasNumber (codes "upto") rows None × (HasFlag (codes "progress") rows → ⊥)
 
--- Which differences, and how they are written: in one scan a row for each, from the number that the list begins after to the one that it ends at; over
--- several scans a row for each; or in groups, which have no numbers.
+-- A row for each difference of one scan, from the number that the list begins after to the one that it ends at.
+abbrev pub HasDiffRows : List Row → Option ℕ → Option ℕ → Type 0
+HasDiffRows rows after upto = IsTable rows × IsSingle rows × HasNumber (codes "after") rows after × HasNumber (codes "upto") rows upto
+
+-- Which differences, and how they are written: a row for each of one scan, with or without lines that tell how far the list is; a row for each over
+-- several scans; or in groups, which have no numbers.
 abbrev pub HasDiffForm : List Row → DiffForm → Type 0
-HasDiffForm rows (diff.Rows after upto) = IsTable rows × IsSingle rows × HasNumber (codes "after") rows after × HasNumber (codes "upto") rows upto
+HasDiffForm rows (diff.Rows after upto) = HasDiffRows rows after upto × (HasFlag (codes "progress") rows → ⊥)
+HasDiffForm rows (diff.Progress after upto) = HasDiffRows rows after upto × HasFlag (codes "progress") rows
 HasDiffForm rows (diff.Held scans every) = IsTable rows × HasScans scans every rows × HasEvery every rows × HasNoPart rows
 HasDiffForm rows (diff.Groups g) = HasFlag (codes "grouped") rows × IsSingle rows × HasGrouping rows g × HasNoPart rows
 
--- Nothing is asked of all states: not how long a search is, which states count, or where states are saved.
+-- Nothing is asked of runs, and no number of states that a search keeps.
+abbrev pub NamesNoRunSearch : List Row → Type 0
+NamesNoRunSearch rows = (HasFlag (codes "runs") rows → ⊥) × HasNumber (codes "states") rows None
+
+-- Nothing is asked of all states, nor of runs: not how long a search is, which states count, or where states are saved.
 abbrev pub NamesNoSearch : List Row → Type 0
-NamesNoSearch rows = HasNumber (codes "looks") rows None × (HasFlag (codes "reachable") rows → ⊥) × HasOption (codes "save") rows None
+NamesNoSearch rows = HasNumber (codes "looks") rows None × (HasFlag (codes "reachable") rows → ⊥) × HasOption (codes "save") rows None × NamesNoRunSearch rows
 
 -- what a comparison of what two programs do with a coil names
 abbrev pub NamesDiff : List Row → DiffRequest → Type 0
@@ -386,8 +396,25 @@ abbrev pub NamesVerdicts : List Row → VerdictRequest → Type 0
 NamesVerdicts rows r = HasOption (codes "coil") rows None
     × HasInputs rows false []
     × NamesNoScan rows
+    × NamesNoRunSearch rows
     × HasNumber (codes "looks") rows r.looks
     × HasSwitch (codes "reachable") rows r.reachable
+    × HasOption (codes "save") rows (option_map string_bytes r.save)
+    × HasSwitch (codes "quiet") rows r.quiet
+    × HasText (codes "old") rows (string_bytes r.old)
+    × HasText (codes "new") rows (string_bytes r.new)
+    × HasSwitch (codes "aliases") rows r.aliases
+    × HasSwitch (codes "why") rows r.why
+
+-- what a comparison of the runs of two programs name by name names: no coil, no inputs
+abbrev pub NamesDiffRuns : List Row → DiffRunsRequest → Type 0
+NamesDiffRuns rows r = HasOption (codes "coil") rows None
+    × HasInputs rows false []
+    × NamesNoScan rows
+    × HasFlag (codes "runs") rows
+    × HasNumber (codes "states") rows r.states
+    × HasNumber (codes "looks") rows None
+    × (HasFlag (codes "reachable") rows → ⊥)
     × HasOption (codes "save") rows (option_map string_bytes r.save)
     × HasSwitch (codes "quiet") rows r.quiet
     × HasText (codes "old") rows (string_bytes r.old)
@@ -413,6 +440,7 @@ HasTask name rows (Perform line) = Says name rows line × HasOption (codes "all-
 HasTask name rows (PerformAll all) = Says name rows all.line × HasOption (codes "all-coils") rows (Some (string_bytes all.folder))
 HasTask name rows (Compare r) = (name ≡ codes "diff") × NamesDiff rows r
 HasTask name rows (Judge r) = (name ≡ codes "diff") × NamesVerdicts rows r
+HasTask name rows (JudgeRuns r) = (name ≡ codes "diff") × NamesDiffRuns rows r
 HasTask name rows (Explain names) = (name ≡ codes "explain") × NamesCodes rows names.items
 
 -- the subcommand's name and values ask for nothing

@@ -1,13 +1,14 @@
 -- What is read of the parts of a request.
 use Rattle.std.specs.Prelude.{false, List, Option, None, Some, map, codes, string_bytes, option_map, []}
 use Rattle.clap.specs.Words.{Row}
-use Rattle.cli_arguments.specs.Asking.{HasFlag, HasInputs, HasLasting, HasNumber, HasOption, HasText, NamesDiff, NamesVerdicts}
+use Rattle.cli_arguments.specs.Asking.{HasFlag, HasInputs, HasLasting, HasNumber, HasOption, HasText, NamesDiff, NamesDiffRuns, NamesVerdicts}
 use Rattle.cli_arguments.specs.declared.comparing.Programs.{Programs}
 use Rattle.cli_arguments.specs.declared.lasting.Lasting.{Lasting}
 use Rattle.cli_arguments.specs.declared.parts.NamedScan.{NamedScan}
 use Rattle.cli_arguments.specs.declared.simulating.Played.{Played}
 use Rattle.cli_arguments.specs.declared.parts.Sources.{Sources}
 use Rattle.cli_arguments.specs.declared.request.DiffRequest.{DiffRequest}
+use Rattle.cli_arguments.specs.declared.request.DiffRunsRequest.{DiffRunsRequest}
 use Rattle.cli_arguments.specs.declared.request.VerdictRequest.{VerdictRequest}
 
 -- the state and the program text
@@ -91,3 +92,6 @@ NamesNoDiff rows = (r : DiffRequest) → NamesDiff rows r → ⊥
 
 abbrev pub NamesNoVerdicts : List Row → Type 0
 NamesNoVerdicts rows = (r : VerdictRequest) → NamesVerdicts rows r → ⊥
+
+abbrev pub NamesNoDiffRuns : List Row → Type 0
+NamesNoDiffRuns rows = (r : DiffRunsRequest) → NamesDiffRuns rows r → ⊥

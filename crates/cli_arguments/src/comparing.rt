@@ -1,16 +1,16 @@
 //! What the subcommand `diff` asks for.
 
-ghost use Rattle.std.specs.Prelude.{◌≡◌, true, false, codes, IfOk, IfErr, None, Some};
+ghost use Rattle.std.specs.Prelude.{◌≡◌, [], true, false, codes, IfOk, IfErr, None, Some};
 ghost use Rattle.clap.specs.Words.{found_of, rows_of};
-ghost use Rattle.cli_arguments.specs.Asking.{HasDiffForm, HasFlag, HasLasting, HasNoTask, HasOption, HasTask, IsTable, NamesDiff, NamesNoSearch, NamesVerdicts};
-ghost use Rattle.cli_arguments.specs.Parts.{HasPrograms, MayLast, NamesNoDiff, NamesNoScans, NamesNoVerdicts};
+ghost use Rattle.cli_arguments.specs.Asking.{HasDiffForm, HasFlag, HasInputs, HasLasting, HasNoTask, HasOption, HasTask, IsTable, NamesDiff, NamesDiffRuns, NamesNoRunSearch, NamesNoScan, NamesNoSearch, NamesVerdicts};
+ghost use Rattle.cli_arguments.specs.Parts.{HasPrograms, MayLast, NamesNoDiff, NamesNoDiffRuns, NamesNoScans, NamesNoVerdicts};
 ghost use Rattle.cli_arguments.specs.Faults.{UsageWhere};
 
 use crate::found::{is_given, is_set, number, optional, text};
 use crate::grouping::{grouping_of, refuse_grouping};
 use crate::lasting::{Lasting, count, lasting_of};
 use crate::parts::{InputNames, every_of, inputs_of, is_counted, is_part};
-use crate::request::{DiffForm, DiffRequest, Task, VerdictRequest, WordFault};
+use crate::request::{DiffForm, DiffRequest, DiffRunsRequest, Task, VerdictRequest, WordFault};
 use crate::showing::lists_inputs;
 use clap::ArgMatches;
 use std::alloc::Global;
@@ -56,7 +56,7 @@ fn diff_form_of(found: &ArgMatches<'_>) -> Result<DiffForm, WordFault>
     }
 }
 
-/// The rows of one scan that are asked for.
+/// The rows of one scan that are asked for, with or without progress.
 fn diff_rows_of(found: &ArgMatches<'_>) -> Result<DiffForm, WordFault>
     requires table { IsTable (rows_of (found_of found.now)) }
     requires lasting { MayLast None (rows_of (found_of found.now)) }
@@ -69,6 +69,9 @@ fn diff_rows_of(found: &ArgMatches<'_>) -> Result<DiffForm, WordFault>
     }
     let after = number(found, "after")?;
     let upto = number(found, "upto")?;
+    if is_set(found, "progress") {
+        return Ok(DiffForm::Progress { after, upto });
+    }
     Ok(DiffForm::Rows { after, upto })
 }
 
@@ -150,12 +153,36 @@ fn names_scan(found: &ArgMatches<'_>) -> bool
         || is_set(found, "grouped")
 }
 
-/// Whether all states are asked of.
+/// Whether runs are asked of, or a number of states that a search keeps is named.
+fn names_run_search(found: &ArgMatches<'_>) -> bool
+    ensures none { result ≡ false → NamesNoRunSearch (rows_of (found_of found.now)) }
+    ensures some { result ≡ true → NamesNoRunSearch (rows_of (found_of found.now)) → ⊥ }
+{
+    is_set(found, "runs") || is_given(found, "states")
+}
+
+/// Whether all states are asked of, or runs.
 fn names_search(found: &ArgMatches<'_>) -> bool
     ensures none { result ≡ false → NamesNoSearch (rows_of (found_of found.now)) }
     ensures some { result ≡ true → NamesNoSearch (rows_of (found_of found.now)) → ⊥ }
 {
-    is_given(found, "looks") || is_set(found, "reachable") || is_given(found, "save")
+    is_given(found, "looks")
+        || is_set(found, "reachable")
+        || is_given(found, "save")
+        || names_run_search(found)
+}
+
+/// Refuses what goes with a coil alone: inputs, given scans, and the form and the order of groups.
+fn names_all(found: &ArgMatches<'_>) -> Result<(), WordFault>
+    ensures ok { IfOk result (λ u. HasInputs (rows_of (found_of found.now)) false [] × NamesNoScan (rows_of (found_of found.now))) }
+    ensures err { IfErr result (UsageWhere (HasInputs (rows_of (found_of found.now)) false [] → NamesNoScan (rows_of (found_of found.now)) → ⊥)) }
+{
+    // It is judged from all states, or in all runs, and all names are.
+    if lists_inputs(found) || names_scan(found) {
+        return Err(WordFault::Usage);
+    }
+    refuse_grouping(found)?;
+    Ok(())
 }
 
 /// What is judged of two programs, name by name.
@@ -164,11 +191,11 @@ fn verdict_request(alloc: Global, found: &ArgMatches<'_>) -> Result<VerdictReque
     ensures ok { IfOk result (NamesVerdicts (rows_of (found_of found.now))) }
     ensures err { IfErr result (UsageWhere (NamesNoVerdicts (rows_of (found_of found.now)))) }
 {
-    // It is judged from all states, and all names are.
-    if lists_inputs(found) || names_scan(found) {
+    // A search for runs alone keeps states.
+    if names_run_search(found) {
         return Err(WordFault::Usage);
     }
-    refuse_grouping(found)?;
+    names_all(found)?;
     let looks = number(found, "looks")?;
     let save = optional(alloc, found, "save")?;
     let old = text(alloc, found, "old")?;
@@ -185,12 +212,45 @@ fn verdict_request(alloc: Global, found: &ArgMatches<'_>) -> Result<VerdictReque
     })
 }
 
+/// What is judged of the runs of two programs, name by name.
+fn runs_request(alloc: Global, found: &ArgMatches<'_>) -> Result<DiffRunsRequest, WordFault>
+    requires coil { HasOption (codes "coil") (rows_of (found_of found.now)) None }
+    requires runs { HasFlag (codes "runs") (rows_of (found_of found.now)) }
+    ensures ok { IfOk result (NamesDiffRuns (rows_of (found_of found.now))) }
+    ensures err { IfErr result (UsageWhere (NamesNoDiffRuns (rows_of (found_of found.now)))) }
+{
+    // Runs begin in the fresh states, so no state is looked at alone.
+    if is_given(found, "looks") || is_set(found, "reachable") {
+        return Err(WordFault::Usage);
+    }
+    names_all(found)?;
+    let states = number(found, "states")?;
+    let save = optional(alloc, found, "save")?;
+    let old = text(alloc, found, "old")?;
+    let new = text(alloc, found, "new")?;
+    Ok(DiffRunsRequest {
+        states,
+        save,
+        quiet: is_set(found, "quiet"),
+        old,
+        new,
+        aliases: is_set(found, "aliases"),
+        why: is_set(found, "why"),
+    })
+}
+
 /// The task of `diff` without a coil.
-fn verdict_task(alloc: Global, found: &ArgMatches<'_>) -> Result<Task, WordFault>
+fn names_task(alloc: Global, found: &ArgMatches<'_>) -> Result<Task, WordFault>
     requires { HasOption (codes "coil") (rows_of (found_of found.now)) None }
     ensures ok { IfOk result (HasTask (codes "diff") (rows_of (found_of found.now))) }
     ensures err { IfErr result (UsageWhere (HasNoTask (codes "diff") (rows_of (found_of found.now)))) }
 {
+    if is_set(found, "runs") {
+        return match runs_request(alloc, found) {
+            Ok(request) => Ok(Task::JudgeRuns(request)),
+            Err(fault) => Err(fault),
+        };
+    }
     match verdict_request(alloc, found) {
         Ok(request) => Ok(Task::Judge(request)),
         Err(fault) => Err(fault),
@@ -221,6 +281,6 @@ pub(crate) fn diff_task(alloc: Global, found: &ArgMatches<'_>) -> Result<Task, W
     if is_given(found, "coil") {
         coil_task(alloc, found)
     } else {
-        verdict_task(alloc, found)
+        names_task(alloc, found)
     }
 }

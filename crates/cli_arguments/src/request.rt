@@ -249,6 +249,13 @@ pub enum DiffForm {
         /// The number to end at; the last one where there is none.
         upto: Option<u64>,
     },
+    /// The same rows, and lines that tell how far they are.
+    Progress {
+        /// The number to begin after.
+        after: Option<u64>,
+        /// The number to end at; the last one where there is none.
+        upto: Option<u64>,
+    },
     /// A row for each combination that, held over several scans, first switches the coil on in another scan.
     Held {
         /// How many scans there are.
@@ -299,6 +306,25 @@ pub struct VerdictRequest {
     /// Whether only states count in which it is so what stays so in each state that the programs reach.
     pub reachable: bool,
     /// The folder in which states are saved that show each difference, where there is one.
+    pub save: Option<String>,
+    /// Whether the line of counts is left out.
+    pub quiet: bool,
+    /// The file of the program text before the change.
+    pub old: String,
+    /// The file of the program text after it.
+    pub new: String,
+    /// Whether aliases are printed in place of names.
+    pub aliases: bool,
+    /// Whether a fault is explained, after its line.
+    pub why: bool,
+}
+
+/// What a request names for what two programs do differently in runs from their fresh states, name by name.
+#[derive(Drop)]
+pub struct DiffRunsRequest {
+    /// How many states a search keeps at most, where it is said.
+    pub states: Option<u64>,
+    /// The folder in which runs are saved that show each difference, where there is one.
     pub save: Option<String>,
     /// Whether the line of counts is left out.
     pub quiet: bool,
@@ -407,6 +433,8 @@ pub enum Task {
     Compare(DiffRequest),
     /// To judge of each name whether two programs leave it alike.
     Judge(VerdictRequest),
+    /// To say of each name what two programs do differently in runs.
+    JudgeRuns(DiffRunsRequest),
     /// To say what the faults with these codes mean, or to list all faults where none is named.
     Explain(Vec<String>),
 }

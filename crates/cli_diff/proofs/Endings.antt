@@ -8,10 +8,10 @@ use Rattle.cli_arguments.specs.declared.request.DiffRequest.{DiffRequest}
 use Rattle.cli_inputs.specs.Reports.{IsReportedBy, logs}
 use Rattle.cli_inputs.specs.Setting.{Given}
 use Rattle.cli_inputs.specs.declared.fault.ToolFault.{ToolFault}
-use Rattle.cli_questions.specs.Ending.{counts_line, unless_quiet}
+use Rattle.cli_questions.specs.Ending.{BreaksOff, counts_line, unless_quiet}
 use Rattle.cli_questions.specs.declared.counting.ListCounts.{ListCounts}
 use Rattle.cli_diff.specs.Asking.{AreAsked}
-use Rattle.cli_diff.specs.Ending.{BreaksDiff, RefusesOf, WritesOf}
+use Rattle.cli_diff.specs.Ending.{Compares, RefusesOf, WritesOf}
 use Rattle.cli_diff.specs.Faults.{HasDiffFault, IsRefusedOf, given_of}
 use Rattle.cli_diff.specs.Listing.{DiffList}
 use Rattle.cli_diff.specs.declared.sided.SidedFault.{SidedFault}
@@ -20,7 +20,7 @@ module _ (g h : Given) (r : DiffRequest) (old new : Question) (asked : AreAsked 
   -- A list that was refused, or that broke off.
   pub broken : (e : SidedFault) (save o o' s s' : WriteLog) → WritesOf (DiffList r.form r.limit old new) (IsRefusedOf r.form old new) o o' (Err e)
       → IsReportedBy e.side (given_of e.side g h) s s' e.fault
-      → RefusesOf g h (HasDiffFault g h r) (logs o save s) (logs o' save s') ⊎ BreaksDiff g h r (logs o save s) (logs o' save s')
+      → RefusesOf g h (HasDiffFault g h r) (logs o save s) (logs o' save s') ⊎ BreaksOff g (Compares g h r) r.quiet (logs o save s) (logs o' save s')
   broken e save o o' s s' (inl w) said =
       inl (record { side = e.side; reason = e.fault; has = inr (old, new, asked, w.0); unwritten = w.1; unsaved = refl {a = save}; reported = said })
   broken e save o o' s s' (inr w) said =
@@ -28,7 +28,7 @@ module _ (g h : Given) (r : DiffRequest) (old new : Question) (asked : AreAsked 
 
   -- A list that was written, the line of whose counts broke off.
   pub uncounted : (n : ListCounts) (save o o' s s' : WriteLog) → WritesOf (DiffList r.form r.limit old new) (IsRefusedOf r.form old new) o o' (Ok n)
-      → PutsPrefix s s' (unless_quiet r.quiet (counts_line n)) → RefusesOf g h (HasDiffFault g h r) (logs o save s) (logs o' save s') ⊎ BreaksDiff g h r (logs o save s) (logs o' save s')
+      → PutsPrefix s s' (unless_quiet r.quiet (counts_line n)) → RefusesOf g h (HasDiffFault g h r) (logs o save s) (logs o' save s') ⊎ BreaksOff g (Compares g h r) r.quiet (logs o save s) (logs o' save s')
   uncounted n save o o' s s' w put = inr (inr (record { text = w.0; counts = n; is = (old, new, asked, w.1); put = w.2; counted = put }))
 
 -- What is said of a fault is of the one program's texts, where both are the same.

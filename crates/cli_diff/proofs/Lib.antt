@@ -1,3 +1,5 @@
 pub mod Forms
 pub mod Endings
 pub mod Naming
+pub mod Ordered
+pub mod TellingEnds

@@ -14,7 +14,7 @@ use Rattle.scan_held.specs.declared.scans.Scans.{Scans}
 use Rattle.search_differences.specs.declared.side.Side.{Side}
 use Rattle.search_differences.specs.declared.side.Side.TheVariants.{Old, New}
 use Rattle.cli_arguments.specs.declared.request.DiffForm.{DiffForm}
-use Rattle.cli_arguments.specs.declared.request.DiffForm.TheVariants.{Rows, Held, Groups}
+use Rattle.cli_arguments.specs.declared.request.DiffForm.TheVariants.{Rows, Progress, Held, Groups}
 use Rattle.cli_arguments.specs.declared.request.DiffRequest.{DiffRequest}
 use Rattle.cli_inputs.specs.declared.fault.ToolFault.{ToolFault}
 use Rattle.cli_inputs.specs.Reports.{HasWordFault}
@@ -77,12 +77,14 @@ rows_refusal after upto q = option_or (bound_refusal upto q) (refusal q after)
 -- the first rule that the question to the old program breaks
 abbrev pub old_refusal : DiffForm → Question → Option ToolFault
 old_refusal (Rows after upto) q = option_map cause_fault (rows_refusal after upto q)
+old_refusal (Progress after upto) q = option_map cause_fault (rows_refusal after upto q)
 old_refusal (Held count every) q = option_map held_fault (held_refusal q (scans_of count every))
 old_refusal (Groups g) q = option_map cause_fault (refusal q None)
 
 -- the first rule that the question to the new program breaks; the number to end at is looked at in the old one
 abbrev pub new_refusal : DiffForm → Question → Option ToolFault
 new_refusal (Rows after upto) q = option_map cause_fault (refusal q after)
+new_refusal (Progress after upto) q = option_map cause_fault (refusal q after)
 new_refusal (Held count every) q = option_map held_fault (held_refusal q (scans_of count every))
 new_refusal (Groups g) q = option_map cause_fault (refusal q None)
 

@@ -28,8 +28,8 @@ use std::alloc::Global;
 /// What is asked of both: of which program in which state, the moment of the scan, the coil's variable and the listed inputs.
 #[derive(Drop)]
 pub struct DiffQuery {
-    pub old: ListQuery,
-    pub new: ListQuery,
+    pub of_old: ListQuery,
+    pub of_new: ListQuery,
 }
 
 /// Both programs, each with the state in which its scan begins.
@@ -268,10 +268,10 @@ pub fn read_query(
     request: &DiffRequest,
     texts: &DiffTexts,
 ) -> Result<DiffQuery, SidedFault>
-    ensures fits_old { IfOk result (λ a. Fits a.old.program a.old.state) }
-    ensures fits_new { IfOk result (λ a. Fits a.new.program a.new.state) }
-    ensures asked { IfOk result (λ a. AreAsked (given_by texts.now.old) (given_by texts.now.new) request.now (question_of a.old) (question_of a.new)) }
-    ensures same { IfOk result (λ a. length a.old.inputs.items ≡ length a.new.inputs.items) }
+    ensures fits_old { IfOk result (λ a. Fits a.of_old.program a.of_old.state) }
+    ensures fits_new { IfOk result (λ a. Fits a.of_new.program a.of_new.state) }
+    ensures asked { IfOk result (λ a. AreAsked (given_by texts.now.old) (given_by texts.now.new) request.now (question_of a.of_old) (question_of a.of_new)) }
+    ensures same { IfOk result (λ a. length a.of_old.inputs.items ≡ length a.of_new.inputs.items) }
     ensures fault { IfErr result (λ e. HasOwnFaultOf e.side (given_by texts.now.old) (given_by texts.now.new) (words_of request.now) e.fault) }
 {
     let settings = match read_settings(alloc, texts) {
@@ -287,8 +287,8 @@ pub fn read_query(
                 inputs,
             } = named;
             Ok(DiffQuery {
-                old: query_of(old, request.moment, old_coil, inputs.old),
-                new: query_of(new, request.moment, new_coil, inputs.new),
+                of_old: query_of(old, request.moment, old_coil, inputs.old),
+                of_new: query_of(new, request.moment, new_coil, inputs.new),
             })
         }
         Err(fault) => {

@@ -1,7 +1,7 @@
 //! The reading of the files of a comparison, and its performance on them.
 
 ghost use Rattle.std.specs.Prelude.{◌≡◌, ◌≤◌, ◌⊎◌, IfErr, IfOk, option_map, vec_items};
-ghost use Rattle.io_text.specs.Log.{PutsAll, WriteLog};
+ghost use Rattle.io_text.specs.Log.{WriteLog};
 ghost use Rattle.cli_inputs.specs.Reports.{logs, unread};
 ghost use Rattle.cli_inputs.specs.Setting.{Given, given_by};
 ghost use Rattle.cli_diff.specs.Ending.{BreaksDiff, CountsDiff, RefusesOf};
@@ -97,9 +97,9 @@ pub fn compare_files<R: Source, O: Sink, E: Sink>(
     err: &mut E,
 ) -> u8
     ensures status { result ≤ 1 }
-    ensures done { result ≡ 0 → (g h : Given) × IsSaidOf g request.now × IsSaidOf h request.now
+    ensures done { (save : WriteLog) → result ≡ 0 → (g h : Given) × IsSaidOf g request.now × IsSaidOf h request.now
         × AreBothRead (diff_files (R.log readers.old.old_program) (R.log readers.old.new_program) (option_map R.log readers.old.old_state) (option_map R.log readers.old.new_state)) g h
-        × CountsDiff g h request.now (O.log out.old) (O.log out.new) (PutsAll (E.log err.old) (E.log err.new)) }
+        × CountsDiff g h request.now (logs (O.log out.old) save (E.log err.old)) (logs (O.log out.new) save (E.log err.new)) }
     ensures failed { (save : WriteLog) → result ≡ 1
         → RefusesOf (unread request.now.why) (unread request.now.why) (StopsAtOne (diff_files (R.log readers.old.old_program) (R.log readers.old.new_program) (option_map R.log readers.old.old_state) (option_map R.log readers.old.new_state))
         (diff_files (R.log readers.new.old_program) (R.log readers.new.new_program) (option_map R.log readers.new.old_state) (option_map R.log readers.new.new_state)))

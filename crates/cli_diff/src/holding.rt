@@ -26,14 +26,14 @@ pub(crate) fn write_held<O: Sink>(
     asked: &DiffQuery,
     out: &mut O,
 ) -> Result<ListCounts, SidedFault>
-    requires old { Fits asked.now.old.program asked.now.old.state }
-    requires new { Fits asked.now.new.program asked.now.new.state }
-    requires same { length asked.now.old.inputs.items ≡ length asked.now.new.inputs.items }
-    ensures { WritesOf (DiffList (Held scans.count scans.every) limit (question_of asked.now.old) (question_of asked.now.new))
-        (IsRefusedOf (Held scans.count scans.every) (question_of asked.now.old) (question_of asked.now.new)) (O.log out.old) (O.log out.new) result }
+    requires old { Fits asked.now.of_old.program asked.now.of_old.state }
+    requires new { Fits asked.now.of_new.program asked.now.of_new.state }
+    requires same { length asked.now.of_old.inputs.items ≡ length asked.now.of_new.inputs.items }
+    ensures { WritesOf (DiffList (Held scans.count scans.every) limit (question_of asked.now.of_old) (question_of asked.now.of_new))
+        (IsRefusedOf (Held scans.count scans.every) (question_of asked.now.of_old) (question_of asked.now.of_new)) (O.log out.old) (O.log out.new) result }
 {
-    let old = program_query(&asked.old);
-    let new = program_query(&asked.new);
+    let old = program_query(&asked.of_old);
+    let new = program_query(&asked.of_new);
     let mut differences = match HeldDifferences::new(alloc, old, new, scans) {
         Ok(differences) => differences,
         Err(fault) => return Err(held_refused(fault)),

@@ -8,6 +8,7 @@ mod grouping;
 mod holding;
 mod listing;
 mod sided;
+mod telling;
 mod texts;
 
 pub use asking::{DiffQuery, read_query};

@@ -58,25 +58,25 @@ fn bound_refusal(bounds: Bounds, asked: &ListQuery) -> Option<CauseFault>
 }
 
 /// The differences from the first one on that is asked for.
-fn differences_of<'a>(
+pub(crate) fn differences_of<'a>(
     alloc: Global,
     bounds: Bounds,
     asked: &'a DiffQuery,
 ) -> Result<Differences<'a>, SidedFault>
-    requires old { Fits asked.now.old.program asked.now.old.state }
-    requires new { Fits asked.now.new.program asked.now.new.state }
-    requires same { length asked.now.old.inputs.items ≡ length asked.now.new.inputs.items }
-    ensures old { IfOk result (λ c. c.asked_old ≡ question_of asked.now.old) }
-    ensures rest { IfOk result (λ c. c.rest ≡ differences_after bounds.after (question_of asked.now.old) (question_of asked.now.new)) }
-    ensures old_accepted { IfOk result (λ _. old_refusal (Rows bounds.after bounds.upto) (question_of asked.now.old) ≡ None) }
-    ensures new_accepted { IfOk result (λ _. new_refusal (Rows bounds.after bounds.upto) (question_of asked.now.new) ≡ None) }
-    ensures refused { IfErr result (λ e. IsRefusedOf (Rows bounds.after bounds.upto) (question_of asked.now.old) (question_of asked.now.new) e.side e.fault) }
+    requires old { Fits asked.now.of_old.program asked.now.of_old.state }
+    requires new { Fits asked.now.of_new.program asked.now.of_new.state }
+    requires same { length asked.now.of_old.inputs.items ≡ length asked.now.of_new.inputs.items }
+    ensures old { IfOk result (λ c. c.asked_old ≡ question_of asked.now.of_old) }
+    ensures rest { IfOk result (λ c. c.rest ≡ differences_after bounds.after (question_of asked.now.of_old) (question_of asked.now.of_new)) }
+    ensures old_accepted { IfOk result (λ _. old_refusal (Rows bounds.after bounds.upto) (question_of asked.now.of_old) ≡ None) }
+    ensures new_accepted { IfOk result (λ _. new_refusal (Rows bounds.after bounds.upto) (question_of asked.now.of_new) ≡ None) }
+    ensures refused { IfErr result (λ e. IsRefusedOf (Rows bounds.after bounds.upto) (question_of asked.now.of_old) (question_of asked.now.of_new) e.side e.fault) }
 {
-    if let Some(fault) = bound_refusal(bounds, &asked.old) {
+    if let Some(fault) = bound_refusal(bounds, &asked.of_old) {
         return Err(refused(DifferenceFault::Old(fault)));
     }
-    let old = program_query(&asked.old);
-    let new = program_query(&asked.new);
+    let old = program_query(&asked.of_old);
+    let new = program_query(&asked.of_new);
     match Differences::new(alloc, old, new, bounds.after) {
         Ok(differences) => Ok(differences),
         Err(fault) => Err(refused(fault)),
@@ -91,11 +91,11 @@ pub(crate) fn write_rows<O: Sink>(
     asked: &DiffQuery,
     out: &mut O,
 ) -> Result<ListCounts, SidedFault>
-    requires old { Fits asked.now.old.program asked.now.old.state }
-    requires new { Fits asked.now.new.program asked.now.new.state }
-    requires same { length asked.now.old.inputs.items ≡ length asked.now.new.inputs.items }
-    ensures { WritesOf (DiffList (Rows bounds.after bounds.upto) limit (question_of asked.now.old) (question_of asked.now.new))
-        (IsRefusedOf (Rows bounds.after bounds.upto) (question_of asked.now.old) (question_of asked.now.new)) (O.log out.old) (O.log out.new) result }
+    requires old { Fits asked.now.of_old.program asked.now.of_old.state }
+    requires new { Fits asked.now.of_new.program asked.now.of_new.state }
+    requires same { length asked.now.of_old.inputs.items ≡ length asked.now.of_new.inputs.items }
+    ensures { WritesOf (DiffList (Rows bounds.after bounds.upto) limit (question_of asked.now.of_old) (question_of asked.now.of_new))
+        (IsRefusedOf (Rows bounds.after bounds.upto) (question_of asked.now.of_old) (question_of asked.now.of_new)) (O.log out.old) (O.log out.new) result }
 {
     let mut differences = match differences_of(alloc, bounds, asked) {
         Ok(differences) => differences,

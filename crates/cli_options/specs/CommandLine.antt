@@ -5,8 +5,9 @@
 -- `ladder show [--state STATE] [--at MS] [--number N] [--stimulus STIMULUS] [--html] [--coil COIL] [--all-inputs] FILE [INPUT]...`,
 -- `ladder sim [--state STATE] [--save STATE] [--every MS] [--watch NAME]... [--watch-all] [--vcd] FILE STIMULUS`, `ladder uses FILE` and `ladder never [--state STATE] [--off] [--pairs] [--quiet] FILE`, each with `[--aliases] [--why]`;
 -- `ladder reach [--state STATE] [--at MS] [--every MS] [--scans N] [--states N] [--both NAME] [--gap MS] [--progress] [--why] FILE NAME [INPUT]...`;
--- `ladder diff [--state STATE] [--new-state STATE] [--at MS] [--after N] [--upto N] [--limit N] [--scans N] [--for MS] [--every MS] [--grouped] [--terms] [--st] [--all-inputs] [--quiet] [--aliases] [--why] OLD NEW COIL [INPUT]...`,
--- and without COIL `ladder diff [--looks N] [--reachable] [--save FOLDER] [--quiet] [--aliases] [--why] OLD NEW`;
+-- `ladder diff [--state STATE] [--new-state STATE] [--at MS] [--after N] [--upto N] [--limit N] [--scans N] [--for MS] [--every MS] [--grouped] [--terms] [--st] [--order ORDER] [--all-inputs] [--progress] [--quiet] [--aliases] [--why] OLD NEW COIL [INPUT]...`,
+-- and without COIL `ladder diff [--looks N] [--reachable] [--save FOLDER] [--quiet] [--aliases] [--why] OLD NEW`
+-- and `ladder diff --runs [--states N] [--save FOLDER] [--quiet] [--aliases] [--why] OLD NEW`;
 -- `ladder import [--open] [--control on] [--hal FILE] [--why] PROJECT`;
 -- and `ladder explain [CODE]...`.
 use Rattle.std.specs.Prelude.{◌≡◌, List, Some, [], ◌∷◌, codes, true, false}
@@ -75,8 +76,8 @@ reach_app = taking (codes "reach") (
 abbrev pub diff_app : App
 diff_app = taking (codes "diff") (
     text_rule (codes "state") ∷ text_rule (codes "new-state") ∷ number_rule (codes "at") ∷ number_rule (codes "after") ∷ number_rule (codes "upto") ∷ number_rule (codes "limit")
-    ∷ number_rule (codes "scans") ∷ number_rule (codes "for") ∷ number_rule (codes "every") ∷ flag_rule (codes "grouped") ∷ flag_rule (codes "terms") ∷ flag_rule (codes "st")
-    ∷ small_rule (codes "looks") ∷ flag_rule (codes "reachable") ∷ text_rule (codes "save") ∷ flag_rule (codes "all-inputs") ∷ flag_rule (codes "quiet") ∷ flag_rule (codes "aliases") ∷ flag_rule (codes "why")
+    ∷ number_rule (codes "scans") ∷ number_rule (codes "for") ∷ number_rule (codes "every") ∷ flag_rule (codes "grouped") ∷ flag_rule (codes "terms") ∷ flag_rule (codes "st") ∷ text_rule (codes "order")
+    ∷ small_rule (codes "looks") ∷ flag_rule (codes "reachable") ∷ flag_rule (codes "runs") ∷ small_rule (codes "states") ∷ text_rule (codes "save") ∷ flag_rule (codes "all-inputs") ∷ flag_rule (codes "progress") ∷ flag_rule (codes "quiet") ∷ flag_rule (codes "aliases") ∷ flag_rule (codes "why")
     ∷ place_rule (codes "old") ∷ place_rule (codes "new") ∷ free_place_rule (codes "coil") ∷ list_rule (codes "inputs") ∷ []
     )
 

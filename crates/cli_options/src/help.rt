@@ -103,6 +103,12 @@ pub(crate) const DIFF_LOOKS_HELP: &str =
 pub(crate) const DIFF_REACHABLE_HELP: &str =
     "Without a COIL: counts only states in which all is so that `ladder never` and `ladder never --off` list of each program, and of no pair of `ladder never --pairs` both are ON, as in each state that the machine reaches";
 
+pub(crate) const DIFF_RUNS_HELP: &str =
+    "Without a COIL: judges runs of both programs from their fresh states, with the same inputs at the same moments: `same` where no run ever leaves a name different, `differs` where one does";
+
+pub(crate) const DIFF_STATES_HELP: &str =
+    "With --runs: a search keeps at most N states, up to 4294967295; 100000 without the option";
+
 pub(crate) const DIFF_SAVE_HELP: &str =
     "Without a COIL: the folder that gets, for each row `differs`, the states that show it, NAME.old.csv and NAME.new.csv, and NAME.csv, a stimulus with the scan's moment";
 
@@ -117,6 +123,12 @@ pub(crate) const DIFF_TERMS_HELP: &str =
 
 pub(crate) const DIFF_STATEMENT_HELP: &str =
     "With --grouped: two statements in Structured Text, COIL_old for what OLD alone does and COIL_new for what NEW alone does";
+
+pub(crate) const DIFF_ORDER_HELP: &str =
+    "With --grouped: `auto` lists the inputs in an order in which OLD's causes have fewer groups, `given` keeps that of the list (as without it)";
+
+pub(crate) const DIFF_PROGRESS_HELP: &str =
+    "Tells on standard error up to which number the list is written: `reached N`; not with --grouped, --scans or --for";
 
 pub(crate) const DIFF_ALL_HELP: &str =
     "Lists all inputs that both programs have, in the order of OLD";

@@ -4,15 +4,18 @@
 mod asking;
 mod coil;
 mod coils;
+mod difference_folder;
 mod files;
 mod folder;
 mod opening;
 mod performing;
 mod program;
 mod request;
+mod runs;
 mod saving;
 mod stream;
 mod telling;
+mod two_texts;
 mod witnesses;
 
 pub use coil::perform_coil;

@@ -1,7 +1,7 @@
 //! The files that a request reads.
 
 use crate::files::Readers;
-use cli_arguments::{DiffRequest, Request, VerdictRequest};
+use cli_arguments::{DiffRequest, Request};
 use cli_diff::DiffReaders;
 use io_text::CountedReader;
 use std::fs::{self, File};
@@ -161,14 +161,15 @@ pub(crate) fn diff_readers_of<'a>(
     }
 }
 
-/// The readers of the files of two programs that are judged, none of which was opened yet.
-pub(crate) fn verdict_readers_of<'a>(
+/// The readers of the files of two programs, none of which was opened yet.
+pub(crate) fn two_readers_of<'a>(
     rt: &'a HostRuntime,
-    request: &'a VerdictRequest,
+    old: &'a str,
+    new: &'a str,
 ) -> DiffReaders<CountedReader<NamedFile<'a>>> {
     DiffReaders {
-        old_program: reading(rt, request.old.as_str()),
-        new_program: reading(rt, request.new.as_str()),
+        old_program: reading(rt, old),
+        new_program: reading(rt, new),
         old_state: None,
         new_state: None,
     }

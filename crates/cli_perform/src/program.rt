@@ -4,10 +4,11 @@ ghost use Rattle.std.specs.Prelude.{◌≤◌};
 
 use crate::files::perform_files;
 use crate::folder::run_coils;
-use crate::opening::{diff_readers_of, readers_of, verdict_readers_of};
+use crate::opening::{diff_readers_of, readers_of, two_readers_of};
+use crate::runs::run_runs;
 use crate::saving::{SavedFile, followed};
 use crate::stream::Stream;
-use crate::telling::telling;
+use crate::telling::{telling, telling_form};
 use crate::witnesses::run_witnesses;
 use cli_arguments::{
     CommandLine, DiffRequest, Request, SimRequest, Task, VerdictRequest, WordFault, read_words,
@@ -55,6 +56,10 @@ fn seen_on(rt: &HostRuntime, task: Task) -> Task {
     }
     match task {
         Task::Perform(line) => Task::Perform(told(line)),
+        Task::Compare(mut request) => {
+            request.form = telling_form(request.form);
+            Task::Compare(request)
+        }
         other => other,
     }
 }
@@ -88,6 +93,7 @@ fn run_task(rt: &HostRuntime, alloc: Global, task: &mut Task) -> u8
             Some(folder) => run_witnesses(rt, alloc, request, folder.as_str()),
             None => run_verdicts(rt, alloc, request),
         },
+        Task::JudgeRuns(request) => run_runs(rt, alloc, request),
         Task::Explain(names) => explain(rt, names),
     };
     drop(places);
@@ -188,7 +194,7 @@ fn run_diff(rt: &HostRuntime, alloc: Global, request: &DiffRequest) -> u8
 fn run_verdicts(rt: &HostRuntime, alloc: Global, request: &VerdictRequest) -> u8
     ensures { result ≤ 2 }
 {
-    let mut readers = verdict_readers_of(rt, request);
+    let mut readers = two_readers_of(rt, request.old.as_str(), request.new.as_str());
     let mut out = CountedWriter::new(Stream::Output(rt));
     let mut err = CountedWriter::new(rt.stderr());
     let status = judge_files(alloc, request, &mut readers, &mut out, &mut err);

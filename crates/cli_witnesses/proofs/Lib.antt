@@ -1,4 +1,3 @@
 mod Kept
 mod Named
 mod Rows
-mod Saved

@@ -8,4 +8,4 @@ mod saving;
 mod stimulus;
 
 pub use judged::{Judged, judge_keeping};
-pub use saving::{WitnessFiles, save_witness};
+pub use saving::{WitnessFile, save_witness};

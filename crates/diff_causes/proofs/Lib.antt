@@ -1,3 +1,5 @@
 pub mod Numbers
 pub mod RowLaws
+mod Order
 pub mod GroupLaws
+pub mod Partners

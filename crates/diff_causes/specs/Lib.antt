@@ -2,6 +2,7 @@ pub mod Differences
 pub mod Asked
 pub mod Refused
 pub mod Cursor
+pub mod Order
 pub mod GroupCursor
 pub mod NumberScans
 pub mod RowSearch

@@ -52,13 +52,20 @@ fn are_same_memories(pairs: &[Pair], old: &State, new: &State) -> bool
     true
 }
 
+/// Whether two states agree on what belongs together, whatever their inputs are.
+pub fn agree_but_inputs(matching: &Matching, old_state: &State, new_state: &State) -> bool
+    ensures { IsTrue result ↔ Agree matching.now old_state.now.held new_state.now.held }
+{
+    are_same_values(matching.variables(), old_state, new_state)
+        && are_same_blocks(matching.instances(), old_state, new_state)
+        && are_same_memories(matching.memories(), old_state, new_state)
+}
+
 /// Whether two states agree on what belongs together, inputs included.
 pub fn agree(matching: &Matching, old_state: &State, new_state: &State) -> bool
     ensures { IsTrue result
         ↔ (Agree matching.now old_state.now.held new_state.now.held × AgreeOnInputs matching.now old_state.now.held new_state.now.held) }
 {
     are_same_values(matching.inputs(), old_state, new_state)
-        && are_same_values(matching.variables(), old_state, new_state)
-        && are_same_blocks(matching.instances(), old_state, new_state)
-        && are_same_memories(matching.memories(), old_state, new_state)
+        && agree_but_inputs(matching, old_state, new_state)
 }

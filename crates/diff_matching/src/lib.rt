@@ -8,7 +8,7 @@ mod matching;
 mod names;
 mod owner;
 
-pub use agreement::agree;
+pub use agreement::{agree, agree_but_inputs};
 pub use carrying::carry;
 pub use matching::{Matching, Pair};
 pub use owner::{Owner, owner_of};

@@ -71,6 +71,28 @@ impl Matching {
         Ok(matching)
     }
 
+    /// What belongs together as given pairs say.
+    pub fn of_pairs(
+        inputs: Vec<Pair>,
+        variables: Vec<Pair>,
+        instances: Vec<Pair>,
+        memories: Vec<Pair>,
+    ) -> Matching
+        ensures { result ≡ record {
+          inputs = inputs.items;
+          variables = variables.items;
+          instances = instances.items;
+          memories = memories.items;
+        } }
+    {
+        Matching {
+            inputs,
+            variables,
+            instances,
+            memories,
+        }
+    }
+
     /// The pairs of inputs.
     pub fn inputs(&self) -> &[Pair]
         ensures { result.now ≡ self.entry.now.inputs }

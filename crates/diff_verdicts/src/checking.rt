@@ -34,30 +34,47 @@ pub(crate) struct Ends {
     pub of_new: bool,
 }
 
-/// A fresh state, at the moment at which all are that are tried.
-fn state_to_try(alloc: Global, program: &Program) -> Result<State, Memory>
-    ensures fits { IfOk result (λ s. Fits program.now s) }
-    ensures moment { IfOk result (λ s. s.moment ≡ MOMENT) }
+/// A state that is tried, and one that gets what a scan of it leaves.
+#[derive(Drop)]
+struct Trial {
+    state: State,
+    end: State,
+}
+
+/// Fresh states, of which the first is at the moment at which all are that are tried.
+fn trial_of(alloc: Global, program: &Program) -> Result<Trial, Memory>
+    ensures fits { IfOk result (λ t. Fits program.now t.state) }
+    ensures moment { IfOk result (λ t. t.state.moment ≡ MOMENT) }
+    ensures end { IfOk result (λ t. Fits program.now t.end) }
 {
     let mut state = State::fresh(alloc, program)?;
     state.set_moment(MOMENT);
-    Ok(state)
+    match State::fresh(alloc, program) {
+        Ok(end) => Ok(Trial { state, end }),
+        Err(fault) => {
+            drop(state);
+            Err(fault)
+        }
+    }
 }
 
 /// States of two programs.
 pub(crate) fn new_tried(alloc: Global, old: &Program, new: &Program) -> Result<Tried, Memory>
     ensures { IfOk result (λ t. AreTried old.now new.now t) }
 {
-    let old_state = state_to_try(alloc, old)?;
-    let new_state = state_to_try(alloc, new)?;
-    let old_end = State::fresh(alloc, old)?;
-    let new_end = State::fresh(alloc, new)?;
-    Ok(Tried {
-        old_state,
-        new_state,
-        old_end,
-        new_end,
-    })
+    let of_old = trial_of(alloc, old)?;
+    match trial_of(alloc, new) {
+        Ok(of_new) => Ok(Tried {
+            old_state: of_old.state,
+            old_end: of_old.end,
+            new_state: of_new.state,
+            new_end: of_new.end,
+        }),
+        Err(fault) => {
+            drop(of_old);
+            Err(fault)
+        }
+    }
 }
 
 /// Whether both store the same.

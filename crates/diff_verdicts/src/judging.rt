@@ -10,16 +10,15 @@ ghost use Rattle.diff_meaning.specs.declared.verdict.Verdict.TheVariants.{Differ
 ghost use Rattle.diff_rungs.specs.Common.{AreLeftAlike};
 ghost use Rattle.diff_verdicts.specs.Judging.{IsToldAtOnce, JudgesTheSame};
 
+use crate::aids::{Aids, BothWriters, searching_with, writers_of};
 use crate::asking::{find, is_same};
-use crate::checking::{Tried, new_tried};
+use crate::checking::Tried;
 use crate::copying::copy_of;
-use crate::opening::{Nothing, claim_nothing};
 use diagram_program::Program;
-use diff_cases::{AlikeBuffers, AlikeQuestion, Target};
+use diff_cases::{AlikeQuestion, Target};
 use diff_matching::Matching;
 use diff_meaning::{Counted, MOMENT, Verdict, Witness};
 use diff_rungs::{InCommon, common};
-use invariant_cases::Writers;
 use scan_cycle::{Memory, State};
 use std::alloc::Global;
 use std::marker::Model;
@@ -33,10 +32,8 @@ pub struct Judge<'a> {
     new_program: &'a Program,
     matching: &'a Matching,
     counted: &'a Counted,
-    old_writers: Writers,
-    new_writers: Writers,
-    nothing: Nothing,
-    buffers: AlikeBuffers,
+    writers: BothWriters,
+    aids: Aids,
     tried: Tried,
 }
 
@@ -56,8 +53,8 @@ impl<'a> Model for Judge<'a> {
       new_state = j.tried.new_state;
     } };
 
-    ghost invariant = { λ j. ClaimNothing j.old_program.now j.new_program.now j.nothing
-        × AreAlikeBuffers j.old_program.now j.new_program.now j.buffers × AreTried j.old_program.now j.new_program.now j.tried
+    ghost invariant = { λ j. ClaimNothing j.old_program.now j.new_program.now j.aids.nothing
+        × AreAlikeBuffers j.old_program.now j.new_program.now j.aids.buffers × AreTried j.old_program.now j.new_program.now j.tried
         × AreOfPrograms j.counted.now j.old_program.now j.new_program.now };
 }
 
@@ -88,22 +85,22 @@ impl<'a> Judge<'a> {
         ensures matching { IfOk result (λ j. j.matching ≡ matching.now) }
         ensures counted { IfOk result (λ j. j.counted ≡ counted.now) }
     {
-        let old_writers = Writers::new(alloc, old)?;
-        let new_writers = Writers::new(alloc, new)?;
-        let nothing = claim_nothing(alloc, old, new)?;
-        let buffers = AlikeBuffers::new(alloc, old, new, matching)?;
-        let tried = new_tried(alloc, old, new)?;
-        Ok(Judge {
-            old_program: old,
-            new_program: new,
-            matching,
-            counted,
-            old_writers,
-            new_writers,
-            nothing,
-            buffers,
-            tried,
-        })
+        let writers = writers_of(alloc, old, new)?;
+        match searching_with(alloc, old, new, matching) {
+            Ok(means) => Ok(Judge {
+                old_program: old,
+                new_program: new,
+                matching,
+                counted,
+                writers,
+                aids: means.aids,
+                tried: means.tried,
+            }),
+            Err(fault) => {
+                drop(writers);
+                Err(fault)
+            }
+        }
     }
 
     /// What belongs together in the programs.
@@ -184,21 +181,21 @@ impl<'a> Judge<'a> {
         let question = AlikeQuestion {
             old: self.old_program,
             new: self.new_program,
-            old_writers: &self.old_writers,
-            new_writers: &self.new_writers,
+            old_writers: &self.writers.of_old,
+            new_writers: &self.writers.of_new,
             matching: self.matching,
             target,
         };
         let counted = self.counted;
-        let nothing = &self.nothing;
-        if is_same(question, counted, nothing, &mut self.buffers, looks) {
+        let nothing = &self.aids.nothing;
+        if is_same(question, counted, nothing, &mut self.aids.buffers, looks) {
             return Verdict::Same;
         }
         match find(
             question,
             counted,
             nothing,
-            &mut self.buffers,
+            &mut self.aids.buffers,
             &mut self.tried,
             looks,
         ) {

@@ -1,6 +1,7 @@
 //! Verdicts on two programs: whether one scan of each leaves a thing alike from all states that agree and count, or which states show a difference.
 #![tactic(auto)]
 
+mod aids;
 mod asking;
 mod candidate;
 mod checking;

@@ -1,3 +1,5 @@
 mod RowLaws
 mod GroupLaws
 mod FormLaws
+mod Telling
+mod TellLaws

@@ -30,7 +30,7 @@ in_pieces first side rest =
 
 -- ---- what comes next of a part
 
-none_to : (last : ℕ) (ds : List Difference) → AllByRecursion (λ (d : Difference). last < d.number) ds → part (Some last) ds ≡ []
+pub none_to : (last : ℕ) (ds : List Difference) → AllByRecursion (λ (d : Difference). last < d.number) ds → part (Some last) ds ≡ []
 none_to last [] h = refl
 none_to last (d ∷ ds) h = ap (λ b. cond b (d ∷ part (Some last) ds) (part (Some last) ds)) (lt-leb d.number last h.0) ∙ none_to last ds h.1
 

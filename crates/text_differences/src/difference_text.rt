@@ -61,7 +61,7 @@ fn next_in(differences: &mut Differences<'_>, upto: Option<u64>) -> Option<Diffe
 }
 
 /// Adds the rows that are left up to a number, or the first of them where there is a limit, and returns how many.
-fn add_rows<W: Sink>(
+pub(crate) fn add_rows<W: Sink>(
     buffer: &mut TextBuffer,
     differences: &mut Differences<'_>,
     listed: usize,

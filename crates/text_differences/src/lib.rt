@@ -4,6 +4,8 @@
 mod difference_text;
 mod group_rows;
 mod group_text;
+mod progress;
 
 pub use difference_text::write_differences;
 pub use group_text::{DifferenceSummary, write_difference_groups};
+pub use progress::write_difference_progress;

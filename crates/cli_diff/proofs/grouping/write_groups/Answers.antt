@@ -1,47 +1,9 @@
-use Rattle.std.proofs.Common.{inr}
-use Rattle.text_differences.specs.GroupText.{difference_group_text, new_rows_of, old_rows_of}
-use Rattle.cli_questions.specs.Query.{question_of}
-use Rattle.cli_diff.proofs.Forms.{groups_are, groups_counted, no_cause}
+use Rattle.std.proofs.Common.{inl, refl}
+use Rattle.cli_diff.proofs.Ordered.{listed_in_order}
 use Rattle.cli_diff.proofs.grouping.write_groups.Goals as goal
 
-pub returns-in-Ok-written : goal.returns-in-Ok-written
-returns-in-Ok-written g c =
-    let limit = c.args.limit in
-    let q = question_of c.args.asked.now.old in
-    let r = question_of c.args.asked.now.new in
-    let old = c.in-Ok.groups in
-    let new = c.in-Ok-groups_of.groups in
-    let made = c.in-Ok.ensures in
-    let w = c.in-Ok-written in (
-      difference_group_text c.form_of-form.result old.asked_old.program old.asked_old.listed (old_rows_of limit old) (new_rows_of limit old new),
-      (
-        no_cause _ made.old_accepted,
-        no_cause _ made.new_accepted,
-        (
-          groups_are limit q r old new made.rows c.in-Ok-groups_of.ensures.rows c.form_of-form.result c.args.grouping.form c.form_of-form.ensures made.old,
-          groups_counted limit q r old new made.rows c.in-Ok-groups_of.ensures.rows w.summary.rows w.summary.differences w.ensures.rows w.ensures.differences,
-        ),
-      ),
-      w.ensures.bytes,
-    )
+pub returns-in-Err : goal.returns-in-Err
+returns-in-Err g c = inl (c.in-Err.ensures.refused c.args.grouping, refl)
 
-pub returns-in-Err-written : goal.returns-in-Err-written
-returns-in-Err-written g c =
-    let limit = c.args.limit in
-    let q = question_of c.args.asked.now.old in
-    let r = question_of c.args.asked.now.new in
-    let old = c.in-Ok.groups in
-    let new = c.in-Ok-groups_of.groups in
-    let made = c.in-Ok.ensures in
-    inr (
-      c.unwritten.ensures,
-      (
-        difference_group_text c.form_of-form.result old.asked_old.program old.asked_old.listed (old_rows_of limit old) (new_rows_of limit old new),
-        (
-          no_cause _ made.old_accepted,
-          no_cause _ made.new_accepted,
-          (groups_are limit q r old new made.rows c.in-Ok-groups_of.ensures.rows c.form_of-form.result c.args.grouping.form c.form_of-form.ensures made.old, tt),
-        ),
-        c.in-Err-written.ensures.bytes,
-      ),
-    )
+pub returns : goal.returns
+returns g c = listed_in_order c.args.grouping c.args.limit _ _ _ _ c.in-Ok.ensures.ordered _ _ _ c.write_as_listed.ensures

@@ -7,8 +7,8 @@ use Rattle.cli_diff.proofs.holding.write_held.Goals as goal
 
 pub returns-in-Ok-written : goal.returns-in-Ok-written
 returns-in-Ok-written g c =
-    let old = question_of c.args.asked.now.old in
-    let new = question_of c.args.asked.now.new in
+    let old = question_of c.args.asked.now.of_old in
+    let new = question_of c.args.asked.now.of_new in
     let of_old = c.program_query-old.ensures in
     let d = c.in-Ok.differences in
     let made = c.in-Ok.ensures in
@@ -25,8 +25,8 @@ returns-in-Ok-written g c =
 
 pub returns-in-Err-written : goal.returns-in-Err-written
 returns-in-Err-written g c =
-    let old = question_of c.args.asked.now.old in
-    let new = question_of c.args.asked.now.new in
+    let old = question_of c.args.asked.now.of_old in
+    let new = question_of c.args.asked.now.of_new in
     let of_old = c.program_query-old.ensures in
     let d = c.in-Ok.differences in
     let made = c.in-Ok.ensures in

@@ -11,8 +11,8 @@ returns-in-Err g c = inl (c.in-Err.ensures.refused, refl)
 pub returns-in-Ok-written : goal.returns-in-Ok-written
 returns-in-Ok-written g c =
     let b = c.args.bounds in
-    let old = question_of c.args.asked.now.old in
-    let new = question_of c.args.asked.now.new in
+    let old = question_of c.args.asked.now.of_old in
+    let new = question_of c.args.asked.now.of_new in
     let d = c.in-Ok.differences in
     let made = c.in-Ok.ensures in
     let w = c.in-Ok-written in (
@@ -31,8 +31,8 @@ returns-in-Ok-written g c =
 pub returns-in-Err-written : goal.returns-in-Err-written
 returns-in-Err-written g c =
     let b = c.args.bounds in
-    let old = question_of c.args.asked.now.old in
-    let new = question_of c.args.asked.now.new in
+    let old = question_of c.args.asked.now.of_old in
+    let new = question_of c.args.asked.now.of_new in
     let d = c.in-Ok.differences in
     let made = c.in-Ok.ensures in
     inr (

@@ -1,0 +1,2 @@
+mod Ends
+mod Finding

@@ -1,0 +1,4 @@
+pub mod Judged
+pub mod Naming
+pub mod Saving
+pub mod Ending

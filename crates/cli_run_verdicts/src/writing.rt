@@ -1,0 +1,195 @@
+//! What is found of two programs in runs, written.
+
+ghost use Rattle.std.specs.Prelude.{◌≡◌, IfErr, IfOk, false};
+ghost use Rattle.diff_matching.specs.Names.{IsByNames};
+ghost use Rattle.diff_findings.specs.Findings.{findings as findings_list};
+ghost use Rattle.diff_run_verdicts.specs.RunVerdicts.{AreFound};
+ghost use Rattle.cli_verdicts.specs.Ending.{verdict_counts};
+ghost use Rattle.cli_run_verdicts.specs.Ending.{FailsToWriteRuns, WritesKeeping, WritesTold};
+
+use cli_inputs::ToolFault;
+use cli_questions::ListCounts;
+use diagram_program::Program;
+use diff_findings::{Compared, Finding, count_verdicts, findings};
+use diff_matching::Matching;
+use diff_meaning::{Counted, Verdicts};
+use diff_run_verdicts::{RunFindings, find_all, verdicts_of};
+use io_text::Sink;
+use reach_search::Limits;
+use std::alloc::Global;
+use text_findings::write_findings;
+
+/// What is kept of two programs that were judged.
+#[derive(Drop)]
+pub(crate) struct Kept {
+    /// What belongs together in them.
+    pub matching: Matching,
+    /// What searches found.
+    pub found: RunFindings,
+}
+
+/// What was counted, and what searches found.
+#[derive(Drop)]
+pub(crate) struct Told {
+    pub counts: ListCounts,
+    pub found: RunFindings,
+}
+
+/// The same, and what belongs together.
+#[derive(Drop)]
+pub(crate) struct Written {
+    pub counts: ListCounts,
+    pub kept: Kept,
+}
+
+/// What is counted of findings.
+fn counts_of(list: &[Finding]) -> ListCounts
+    ensures { result ≡ verdict_counts list.now false }
+{
+    let tally = count_verdicts(list);
+    ListCounts::Verdicts {
+        same: tally.same as u64,
+        differs: tally.differs as u64,
+        unsettled: tally.unsettled as u64,
+        is_equivalent: false,
+    }
+}
+
+/// Writes findings, and counts them.
+fn write_list<O: Sink>(
+    compared: Compared<'_>,
+    list: &[Finding],
+    out: &mut O,
+) -> Result<ListCounts, ToolFault>
+    requires { list.now ≡ findings_list compared.old.now compared.new.now compared.matching.now compared.verdicts.now }
+    ensures { WritesTold compared.entry.old.now compared.entry.new.now compared.entry.matching.now compared.entry.verdicts.now (O.log out.old) (O.log out.new) result }
+{
+    match write_findings(compared.old, compared.new, list, out) {
+        Ok(()) => Ok(counts_of(list)),
+        Err(_) => Err(ToolFault::Write),
+    }
+}
+
+/// Writes what is found of two programs by verdicts.
+fn write_compared<O: Sink>(
+    alloc: Global,
+    compared: Compared<'_>,
+    out: &mut O,
+) -> Result<ListCounts, ToolFault>
+    ensures { WritesTold compared.entry.old.now compared.entry.new.now compared.entry.matching.now compared.entry.verdicts.now (O.log out.old) (O.log out.new) result }
+{
+    let list = match findings(alloc, compared) {
+        Ok(list) => list,
+        Err(_) => return Err(ToolFault::Memory),
+    };
+    let written = write_list(compared, &list, out);
+    drop(list);
+    written
+}
+
+/// The same. Which states a verdict counts makes no difference to the text.
+fn write_told<O: Sink>(
+    alloc: Global,
+    old: &Program,
+    new: &Program,
+    matching: &Matching,
+    verdicts: &Verdicts,
+    out: &mut O,
+) -> Result<ListCounts, ToolFault>
+    ensures { WritesTold old.now new.now matching.now verdicts.now (O.log out.old) (O.log out.new) result }
+{
+    let counted = Counted::All;
+    let compared = Compared {
+        old,
+        new,
+        matching,
+        counted: &counted,
+        verdicts,
+    };
+    let written = write_compared(alloc, compared, out);
+    drop(counted);
+    written
+}
+
+/// Writes what is found of two programs, by what searches found.
+fn write_found<O: Sink>(
+    alloc: Global,
+    old: &Program,
+    new: &Program,
+    matching: &Matching,
+    found: &RunFindings,
+    out: &mut O,
+) -> Result<ListCounts, ToolFault>
+    requires names { IsByNames matching.now old.now new.now }
+    requires found { AreFound matching.now old.now new.now found.now }
+    ensures done { IfOk result (WritesKeeping old.now new.now matching.now found.now (O.log out.old) (O.log out.new)) }
+    ensures failed { IfErr result (FailsToWriteRuns old.now new.now (O.log out.old) (O.log out.new)) }
+{
+    let verdicts = match verdicts_of(alloc, matching, found) {
+        Ok(verdicts) => verdicts,
+        Err(_) => return Err(ToolFault::Memory),
+    };
+    let written = write_told(alloc, old, new, matching, &verdicts, out);
+    drop(verdicts);
+    written
+}
+
+/// Searches for runs that show differences, and writes what is found.
+fn write_matched<O: Sink>(
+    alloc: Global,
+    limits: Limits,
+    old: &Program,
+    new: &Program,
+    matching: &Matching,
+    out: &mut O,
+) -> Result<Told, ToolFault>
+    requires names { IsByNames matching.now old.now new.now }
+    ensures done { IfOk result (λ t. WritesKeeping old.now new.now matching.now t.found (O.log out.old) (O.log out.new) t.counts) }
+    ensures failed { IfErr result (FailsToWriteRuns old.now new.now (O.log out.old) (O.log out.new)) }
+{
+    let found = match find_all(alloc, old, new, matching, limits) {
+        Ok(found) => found,
+        Err(_) => return Err(ToolFault::Memory),
+    };
+    match write_found(alloc, old, new, matching, &found, out) {
+        Ok(counts) => Ok(Told { counts, found }),
+        Err(fault) => {
+            drop(found);
+            Err(fault)
+        }
+    }
+}
+
+/// Judges two programs over runs by what belongs together in them by names, and writes what is found.
+///
+/// # Errors
+///
+/// `Memory`, and then nothing was written; `Write` where the writer failed, and then a prefix of the text was.
+pub(crate) fn write_runs<O: Sink>(
+    alloc: Global,
+    limits: Limits,
+    old: &Program,
+    new: &Program,
+    out: &mut O,
+) -> Result<Written, ToolFault>
+    ensures done { IfOk result (λ w. WritesKeeping old.now new.now w.kept.matching w.kept.found (O.log out.old) (O.log out.new) w.counts) }
+    ensures failed { IfErr result (FailsToWriteRuns old.now new.now (O.log out.old) (O.log out.new)) }
+{
+    let matching = match Matching::by_names(alloc, old, new) {
+        Ok(matching) => matching,
+        Err(_) => return Err(ToolFault::Memory),
+    };
+    match write_matched(alloc, limits, old, new, &matching, out) {
+        Ok(told) => Ok(Written {
+            counts: told.counts,
+            kept: Kept {
+                matching,
+                found: told.found,
+            },
+        }),
+        Err(fault) => {
+            drop(matching);
+            Err(fault)
+        }
+    }
+}

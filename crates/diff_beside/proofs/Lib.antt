@@ -1,0 +1,4 @@
+pub mod Moved
+pub mod Bounds
+pub mod Placed
+pub mod WellFormed

@@ -1,0 +1,3 @@
+pub mod Moving
+pub mod Fitting
+pub mod Standing

@@ -1,0 +1,2 @@
+mod ForEver
+mod Listing

@@ -1,0 +1,3 @@
+pub mod RunVerdicts
+pub mod Telling
+pub mod Lasting

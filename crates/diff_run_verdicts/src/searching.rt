@@ -1,0 +1,146 @@
+//! The searches for runs that show differences, once it is known that two programs stand side by side in one.
+
+ghost use Rattle.std.specs.Prelude.{◌≡◌, [], IfOk, IsTrue, OnOk, option_map};
+ghost use Rattle.diff_runs.specs.Beside.{StandBeside};
+ghost use Rattle.diff_runs.specs.Showing.{BelongTogether, NeverShown};
+ghost use Rattle.diff_search.specs.Differences.{IsPrepared, IsTrueInRuns};
+ghost use Rattle.diff_run_verdicts.specs.Lasting.{StayAlikeIn};
+ghost use Rattle.diff_run_verdicts.specs.RunVerdicts.{AreFound, AreOfPairs};
+
+use crate::findings::{RunFindings, nothing_known};
+use crate::names::{NameSort, pairs_of, symbols_of};
+use diagram_declarations::Symbol;
+use diff_matching::{Matching, Pair};
+use diff_runs::{Sides, TwoSymbols, symbols_in};
+use diff_search::{Prepared, RunDifference, seek_difference};
+use reach_search::Limits;
+use scan_cycle::Memory;
+use std::alloc::Global;
+
+/// What each search reads.
+#[derive(Clone, Copy)]
+pub(crate) struct Seeking<'a> {
+    pub sides: Sides<'a>,
+    pub prepared: &'a Prepared,
+    /// What stays alike for ever, which isn't searched for.
+    pub alike: Option<&'a Matching>,
+    pub limits: Limits,
+}
+
+/// Whether a row tells what is judged of the symbols: of instances always, of variables where a coil of either program writes one.
+fn has_row(sides: Sides<'_>, symbols: TwoSymbols) -> bool {
+    match (symbols.old, symbols.new) {
+        (Symbol::Var(old), Symbol::Var(new)) => sides.old.has_coil(old) || sides.new.has_coil(new),
+        _ => true,
+    }
+}
+
+/// Whether two symbols belong together.
+fn belong_together(matching: &Matching, symbols: TwoSymbols) -> bool
+    ensures { IsTrue result → BelongTogether matching.now symbols.old symbols.new }
+{
+    match (symbols.old, symbols.new) {
+        (Symbol::Var(old), Symbol::Var(new)) => matching.variables().contains(&Pair { old, new }),
+        (Symbol::Instance(old), Symbol::Instance(new)) => {
+            matching.instances().contains(&Pair { old, new })
+        }
+        _ => false,
+    }
+}
+
+/// Whether two symbols stay alike for ever.
+fn stay_alike(sides: Sides<'_>, alike: Option<&Matching>, symbols: TwoSymbols) -> bool
+    requires { StayAlikeIn sides.matching.now sides.old.now sides.new.now (option_map (λ m. m.now) alike) }
+    ensures { IsTrue result → NeverShown sides.entry.matching.now sides.entry.old.now sides.entry.new.now symbols }
+{
+    let _old = sides.old;
+    match alike {
+        Some(alike) => belong_together(alike, symbols),
+        None => false,
+    }
+}
+
+/// What a search finds of two symbols. What has no row isn't searched for.
+fn find_one(
+    alloc: Global,
+    seeking: Seeking<'_>,
+    symbols: TwoSymbols,
+) -> Result<RunDifference, Memory>
+    requires beside { StandBeside seeking.sides }
+    requires prepared { IsPrepared seeking.sides seeking.prepared.now }
+    requires alike { StayAlikeIn seeking.sides.matching.now seeking.sides.old.now seeking.sides.new.now (option_map (λ m. m.now) seeking.alike) }
+    ensures { IfOk result (IsTrueInRuns seeking.entry.sides.matching.now seeking.entry.sides.old.now seeking.entry.sides.new.now symbols) }
+{
+    let sides = seeking.sides;
+    if !has_row(sides, symbols) {
+        return Ok(nothing_known());
+    }
+    if stay_alike(sides, seeking.alike, symbols) {
+        return Ok(RunDifference::Never);
+    }
+    let Some(there) = symbols_in(sides.of_old, sides.of_new, symbols) else {
+        return Ok(nothing_known());
+    };
+    let Seeking {
+        prepared,
+        limits,
+        ..
+    } = seeking;
+    seek_difference(alloc, sides, prepared, symbols, there, limits)
+}
+
+/// Adds what searches find of each pair of a sort.
+fn find_sort(
+    alloc: Global,
+    seeking: Seeking<'_>,
+    sort: NameSort,
+    list: &mut Vec<RunDifference>,
+) -> Result<(), Memory>
+    requires beside { StandBeside seeking.sides }
+    requires prepared { IsPrepared seeking.sides seeking.prepared.now }
+    requires alike { StayAlikeIn seeking.sides.matching.now seeking.sides.old.now seeking.sides.new.now (option_map (λ m. m.now) seeking.alike) }
+    requires none { list.old.items ≡ [] }
+    ensures { OnOk result (AreOfPairs (IsTrueInRuns seeking.entry.sides.matching.now seeking.entry.sides.old.now seeking.entry.sides.new.now)
+        seeking.entry.sides.matching.now sort list.new.items) }
+{
+    let pairs = pairs_of(sort, seeking.sides.matching);
+    for number in 0..pairs.len() {
+        let found = find_one(alloc, seeking, symbols_of(sort, pairs[number]))?;
+        list.push(found)?;
+    }
+    Ok(())
+}
+
+/// Adds what searches find of all names.
+fn find_sorts(alloc: Global, seeking: Seeking<'_>, findings: &mut RunFindings) -> Result<(), Memory>
+    requires beside { StandBeside seeking.sides }
+    requires prepared { IsPrepared seeking.sides seeking.prepared.now }
+    requires alike { StayAlikeIn seeking.sides.matching.now seeking.sides.old.now seeking.sides.new.now (option_map (λ m. m.now) seeking.alike) }
+    requires variables { findings.old.variables.items ≡ [] }
+    requires instances { findings.old.instances.items ≡ [] }
+    ensures { OnOk result (AreFound seeking.entry.sides.matching.now seeking.entry.sides.old.now seeking.entry.sides.new.now findings.new) }
+{
+    find_sort(alloc, seeking, NameSort::Variables, &mut findings.variables)?;
+    find_sort(alloc, seeking, NameSort::Instances, &mut findings.instances)
+}
+
+/// What searches find of all names.
+///
+/// # Errors
+///
+/// `Memory` when out of memory.
+pub(crate) fn find_with(alloc: Global, seeking: Seeking<'_>) -> Result<RunFindings, Memory>
+    requires beside { StandBeside seeking.sides }
+    requires prepared { IsPrepared seeking.sides seeking.prepared.now }
+    requires alike { StayAlikeIn seeking.sides.matching.now seeking.sides.old.now seeking.sides.new.now (option_map (λ m. m.now) seeking.alike) }
+    ensures { IfOk result (AreFound seeking.entry.sides.matching.now seeking.entry.sides.old.now seeking.entry.sides.new.now) }
+{
+    let mut findings = RunFindings {
+        variables: Vec::new(alloc),
+        instances: Vec::new(alloc),
+    };
+    match find_sorts(alloc, seeking, &mut findings) {
+        Ok(()) => Ok(findings),
+        Err(fault) => Err(fault),
+    }
+}

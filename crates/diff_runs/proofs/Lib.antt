@@ -1,0 +1,9 @@
+mod Among
+mod Pairs
+mod Inputs
+mod Alike
+mod Joining
+mod Never
+mod Parting
+mod Placing
+mod Shown

@@ -1,0 +1,5 @@
+use Rattle.diff_runs.proofs.Shown.{shown}
+use Rattle.diff_runs.proofs.laws.shown.Goals as goal
+
+pub returns : goal.returns
+returns c = shown c.args.old.now c.args.new.now c.args.both.now c.checked.ensures c.checked-2.ensures c.checked-3.ensures

@@ -1,0 +1,5 @@
+pub mod Beside
+pub mod Showing
+pub mod Asking
+pub mod Pulling
+pub mod Laws
