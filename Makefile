@@ -43,6 +43,7 @@ test:
 	  "python3 tests/reaching.py $(PROGRAM)" \
 	  "python3 tests/differing.py $(PROGRAM) 600" \
 	  "python3 tests/judging.py $(PROGRAM) 300" \
+	  "python3 tests/judging_runs.py $(PROGRAM) 150" \
 	  "python3 tests/importing.py $(PROGRAM) 200"
 	python3 tests/growth.py $(PROGRAM)
 	python3 tests/full.py $(PROGRAM)

@@ -43,7 +43,7 @@ _ladder() {
         import) options='--open --control --hal --why --help' ;;
         never) options='--state --off --pairs --quiet --aliases --why --help' ;;
         reach) options='--state --at --every --scans --states --both --gap --progress --why --help' ;;
-        diff) options='--state --new-state --at --after --upto --limit --scans --for --every --grouped --terms --st --looks --reachable --save --all-inputs --quiet --aliases --why --help' ;;
+        diff) options='--state --new-state --at --after --upto --limit --scans --for --every --grouped --terms --st --order --looks --reachable --runs --states --save --all-inputs --progress --quiet --aliases --why --help' ;;
         explain) options='--help' ;;
         help)
             mapfile -t COMPREPLY < <(compgen -W 'check causes show sim uses never reach diff import explain' -- "$word")

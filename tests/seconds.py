@@ -169,6 +169,8 @@ def write_table(logs):
     for crate in table:
         edits = len(list((ROOT / "crates" / crate / "must-fail").glob("*.edit")))
         table[crate]["edits"] = edits or ""
+        if not edits:
+            table[crate]["mutants"] = ""
     kept = [table[crate] for crate in crates() if crate in table]
     TABLE.parent.mkdir(parents=True, exist_ok=True)
     with open(TABLE, "w", encoding="utf-8", newline="") as to:
