@@ -5,7 +5,7 @@ ghost use Rattle.diff_runs.specs.Beside.{StandBeside};
 ghost use Rattle.diff_run_verdicts.specs.Lasting.{StayAlikeIn};
 ghost use Rattle.diff_run_verdicts.specs.RunVerdicts.{AreFound};
 
-use crate::findings::{RunFindings, none_found};
+use crate::findings::{KnownAlike, RunFindings, known_all};
 use crate::lasting::lasting;
 use crate::searching::{Seeking, find_with};
 use diagram_program::Program;
@@ -118,14 +118,22 @@ fn find_known(
 {
     match find_some(alloc, old, new, matching, alike, limits) {
         Ok(Some(found)) => Ok(found),
-        Ok(None) => none_found(alloc, matching),
+        Ok(None) => {
+            let known = KnownAlike {
+                old,
+                new,
+                matching,
+                alike,
+            };
+            known_all(alloc, known)
+        }
         Err(fault) => Err(fault),
     }
 }
 
 /// Searches, for each name that both programs have, for runs from their fresh states after which they leave it different: of each variable that a
 /// coil of either writes, and of each instance. What one scan of each leaves alike for ever needs no search. Each search keeps at most so many
-/// states. Where the programs don't fit into one, nothing is known of any name.
+/// states. Where the programs don't fit into one, nothing more is known.
 ///
 /// # Errors
 ///

@@ -1,15 +1,19 @@
 //! What searches find of all names.
 
-ghost use Rattle.std.specs.Prelude.{◌≡◌, IfOk, map};
+ghost use Rattle.std.specs.Prelude.{IfOk, IsTrue, option_map};
 ghost use Rattle.diagram_program.specs.Program.{Drawing};
+ghost use Rattle.diff_runs.specs.Showing.{BelongTogether, NeverShown};
 ghost use Rattle.diff_runs.specs.declared.symbols.TwoSymbols.{TwoSymbols};
 ghost use Rattle.diff_matching.specs.Matching.{Matching};
 ghost use Rattle.diff_search.specs.Differences.{IsTrueInRuns};
-ghost use Rattle.diff_search.specs.declared.difference.RunDifference.TheVariants.{Open};
+ghost use Rattle.diff_run_verdicts.specs.Lasting.{StayAlikeIn};
 ghost use Rattle.diff_run_verdicts.specs.RunVerdicts.{AreFound, AreOfPairs};
 
-use crate::names::{NameSort, pairs_of};
+use crate::names::{NameSort, pairs_of, symbols_of};
+use diagram_declarations::Symbol;
+use diagram_program::Program;
 use diff_matching::{Matching, Pair};
+use diff_runs::TwoSymbols;
 use diff_search::RunDifference;
 use scan_cycle::Memory;
 use std::alloc::{AllocError, Global};
@@ -28,30 +32,75 @@ pub(crate) fn nothing_known() -> RunDifference
     RunDifference::Open(0)
 }
 
-/// The same of each of some pairs.
-fn all_open(alloc: Global, pairs: &[Pair]) -> Result<Vec<RunDifference>, AllocError>
-    ensures { IfOk result (λ list. list.items ≡ map (λ x. Open 0) pairs.now) }
-{
-    pairs.iter().map(|_| RunDifference::Open(0)).collect(alloc)
+/// Two programs, what belongs together in them, and what stays alike for ever, where that is known of anything.
+#[derive(Clone, Copy)]
+pub(crate) struct KnownAlike<'a> {
+    pub old: &'a Program,
+    pub new: &'a Program,
+    pub matching: &'a Matching,
+    pub alike: Option<&'a Matching>,
 }
 
-/// The same of each pair of a sort.
-fn nothing_known_of(
+/// Whether two symbols belong together.
+fn belong_together(matching: &Matching, symbols: TwoSymbols) -> bool
+    ensures { IsTrue result → BelongTogether matching.now symbols.old symbols.new }
+{
+    match (symbols.old, symbols.new) {
+        (Symbol::Var(old), Symbol::Var(new)) => matching.variables().contains(&Pair { old, new }),
+        (Symbol::Instance(old), Symbol::Instance(new)) => {
+            matching.instances().contains(&Pair { old, new })
+        }
+        _ => false,
+    }
+}
+
+/// Whether two symbols are known to stay alike for ever.
+pub(crate) fn stay_alike(known: KnownAlike<'_>, symbols: TwoSymbols) -> bool
+    requires { StayAlikeIn known.matching.now known.old.now known.new.now (option_map (λ m. m.now) known.alike) }
+    ensures { IsTrue result → NeverShown known.entry.matching.now known.entry.old.now known.entry.new.now symbols }
+{
+    match known.alike {
+        Some(alike) => belong_together(alike, symbols),
+        None => false,
+    }
+}
+
+/// What is known of two symbols without a search.
+fn known_of(known: KnownAlike<'_>, symbols: TwoSymbols) -> RunDifference
+    requires { StayAlikeIn known.matching.now known.old.now known.new.now (option_map (λ m. m.now) known.alike) }
+    ensures { IsTrueInRuns known.entry.matching.now known.entry.old.now known.entry.new.now symbols result }
+{
+    if stay_alike(known, symbols) {
+        return RunDifference::Never;
+    }
+    nothing_known()
+}
+
+/// What is known without a search of each pair of a sort.
+fn known_sort(
     alloc: Global,
-    matching: &Matching,
+    known: KnownAlike<'_>,
     sort: NameSort,
 ) -> Result<Vec<RunDifference>, AllocError>
-    ensures { IfOk result (λ list. (p q : Drawing) → AreOfPairs (IsTrueInRuns matching.now p q) matching.now sort list.items) }
+    requires { StayAlikeIn known.matching.now known.old.now known.new.now (option_map (λ m. m.now) known.alike) }
+    ensures { IfOk result (λ list. AreOfPairs (IsTrueInRuns known.entry.matching.now known.entry.old.now known.entry.new.now)
+        known.entry.matching.now sort list.items) }
 {
-    all_open(alloc, pairs_of(sort, matching))
+    let pairs = pairs_of(sort, known.matching);
+    let mut list = Vec::new(alloc);
+    for number in 0..pairs.len() {
+        list.push(known_of(known, symbols_of(sort, pairs[number])))?;
+    }
+    Ok(list)
 }
 
 /// What is known of all names without a search.
-pub(crate) fn none_found(alloc: Global, matching: &Matching) -> Result<RunFindings, Memory>
-    ensures { IfOk result (λ f. (p q : Drawing) → AreFound matching.now p q f) }
+pub(crate) fn known_all(alloc: Global, known: KnownAlike<'_>) -> Result<RunFindings, Memory>
+    requires { StayAlikeIn known.matching.now known.old.now known.new.now (option_map (λ m. m.now) known.alike) }
+    ensures { IfOk result (AreFound known.entry.matching.now known.entry.old.now known.entry.new.now) }
 {
-    let variables = nothing_known_of(alloc, matching, NameSort::Variables)?;
-    let instances = nothing_known_of(alloc, matching, NameSort::Instances)?;
+    let variables = known_sort(alloc, known, NameSort::Variables)?;
+    let instances = known_sort(alloc, known, NameSort::Instances)?;
     Ok(RunFindings {
         variables,
         instances,

@@ -1,16 +1,15 @@
 //! The searches for runs that show differences, once it is known that two programs stand side by side in one.
 
-ghost use Rattle.std.specs.Prelude.{◌≡◌, [], IfOk, IsTrue, OnOk, option_map};
+ghost use Rattle.std.specs.Prelude.{◌≡◌, [], IfOk, OnOk, option_map};
 ghost use Rattle.diff_runs.specs.Beside.{StandBeside};
-ghost use Rattle.diff_runs.specs.Showing.{BelongTogether, NeverShown};
 ghost use Rattle.diff_search.specs.Differences.{IsPrepared, IsTrueInRuns};
 ghost use Rattle.diff_run_verdicts.specs.Lasting.{StayAlikeIn};
 ghost use Rattle.diff_run_verdicts.specs.RunVerdicts.{AreFound, AreOfPairs};
 
-use crate::findings::{RunFindings, nothing_known};
+use crate::findings::{KnownAlike, RunFindings, nothing_known, stay_alike};
 use crate::names::{NameSort, pairs_of, symbols_of};
 use diagram_declarations::Symbol;
-use diff_matching::{Matching, Pair};
+use diff_matching::Matching;
 use diff_runs::{Sides, TwoSymbols, symbols_in};
 use diff_search::{Prepared, RunDifference, seek_difference};
 use reach_search::Limits;
@@ -35,31 +34,6 @@ fn has_row(sides: Sides<'_>, symbols: TwoSymbols) -> bool {
     }
 }
 
-/// Whether two symbols belong together.
-fn belong_together(matching: &Matching, symbols: TwoSymbols) -> bool
-    ensures { IsTrue result → BelongTogether matching.now symbols.old symbols.new }
-{
-    match (symbols.old, symbols.new) {
-        (Symbol::Var(old), Symbol::Var(new)) => matching.variables().contains(&Pair { old, new }),
-        (Symbol::Instance(old), Symbol::Instance(new)) => {
-            matching.instances().contains(&Pair { old, new })
-        }
-        _ => false,
-    }
-}
-
-/// Whether two symbols stay alike for ever.
-fn stay_alike(sides: Sides<'_>, alike: Option<&Matching>, symbols: TwoSymbols) -> bool
-    requires { StayAlikeIn sides.matching.now sides.old.now sides.new.now (option_map (λ m. m.now) alike) }
-    ensures { IsTrue result → NeverShown sides.entry.matching.now sides.entry.old.now sides.entry.new.now symbols }
-{
-    let _old = sides.old;
-    match alike {
-        Some(alike) => belong_together(alike, symbols),
-        None => false,
-    }
-}
-
 /// What a search finds of two symbols. What has no row isn't searched for.
 fn find_one(
     alloc: Global,
@@ -75,7 +49,13 @@ fn find_one(
     if !has_row(sides, symbols) {
         return Ok(nothing_known());
     }
-    if stay_alike(sides, seeking.alike, symbols) {
+    let known = KnownAlike {
+        old: sides.old,
+        new: sides.new,
+        matching: sides.matching,
+        alike: seeking.alike,
+    };
+    if stay_alike(known, symbols) {
         return Ok(RunDifference::Never);
     }
     let Some(there) = symbols_in(sides.of_old, sides.of_new, symbols) else {

@@ -29,7 +29,7 @@ fn is_comparable(question: AlikeQuestion<'_>) -> bool
 }
 
 /// Whether at most so many looks settle that the target is left alike from all states that agree and count.
-pub(crate) fn is_same(
+fn is_same_among(
     question: AlikeQuestion<'_>,
     counted: &Counted,
     nothing: &Nothing,
@@ -52,6 +52,40 @@ pub(crate) fn is_same(
     settled_alike(question.old, question.new);
     open_all(question, counted, nothing, buffers);
     is_comparable(question) && settle(question, buffers, looks).is_settled
+}
+
+/// Whether at most so many looks settle that the target is left alike from all states that agree and count, or else as many that it is from all
+/// states that agree: less is known of these, so other cases are looked at.
+pub(crate) fn is_same(
+    question: AlikeQuestion<'_>,
+    counted: &Counted,
+    nothing: &Nothing,
+    buffers: &mut AlikeBuffers,
+    looks: u32,
+) -> bool
+    requires target { CanBeJudged question.matching.now question.target }
+    requires counted { AreOfPrograms counted.now question.old.now question.new.now }
+    requires nothing { ClaimNothing question.old.now question.new.now nothing.now }
+    requires buffers { AreAlikeBuffers question.old.now question.new.now buffers.old }
+    ensures same { IsTrue result
+        → LeavesAlikeWhere counted.now question.entry.matching.now question.entry.old.now question.entry.new.now question.entry.target }
+    ensures at_once { 0 < looks
+        → IsToldAtOnce counted.now question.entry.matching.now question.entry.old.now question.entry.new.now question.entry.target → IsTrue result }
+    ensures none { looks ≡ 0 → result ≡ false }
+    ensures buffers { AreAlikeBuffers question.entry.old.now question.entry.new.now buffers.new }
+{
+    if is_same_among(question, counted, nothing, buffers, looks) {
+        return true;
+    }
+    match counted {
+        Counted::All => false,
+        Counted::Reachable { .. } => {
+            let all = Counted::All;
+            let is_same = is_same_among(question, &all, nothing, buffers, looks);
+            drop(all);
+            is_same
+        }
+    }
 }
 
 /// What two scans leave of the target from states that agree and count, where at most so many looks find such that leave it different.

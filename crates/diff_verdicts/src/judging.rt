@@ -168,7 +168,8 @@ impl<'a> Judge<'a> {
         })
     }
 
-    /// Judges a target by at most so many looks for a proof, and as many for a difference; a look is a scan of each program.
+    /// Judges a target by at most so many looks for a proof, and as many for a difference; a look is a scan of each program. Where not all states count,
+    /// as many looks again may prove it of all states.
     pub fn judge(&mut self, target: Target, looks: u32) -> Verdict
         requires target { CanBeJudged self.old.matching target }
         ensures truth { IsTrueOf self.old.counted self.old.matching self.old.old_program self.old.new_program target result }

@@ -2,7 +2,7 @@ use Rattle.std.proofs.Common.{subst, sym}
 use Rattle.diff_cases.specs.Cases.{IsSettledAlike, IsToldAlike}
 use Rattle.diff_verdicts.proofs.Opened.{left_alike}
 use Rattle.diff_verdicts.specs.Carrying.{Knowns}
-use Rattle.diff_verdicts.proofs.asking.is_same.Goals as goal
+use Rattle.diff_verdicts.proofs.asking.is_same_among.Goals as goal
 
 pub returns-then-is_comparable-clause-same : goal.returns-then-is_comparable-clause-same
 returns-then-is_comparable-clause-same c = λ yes.
