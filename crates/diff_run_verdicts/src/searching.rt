@@ -16,6 +16,9 @@ use reach_search::Limits;
 use scan_cycle::Memory;
 use std::alloc::Global;
 
+/// How many states a search keeps at first.
+const FEW: usize = 1_000;
+
 /// What each search reads.
 #[derive(Clone, Copy)]
 pub(crate) struct Seeking<'a> {
@@ -34,7 +37,17 @@ fn has_row(sides: Sides<'_>, symbols: TwoSymbols) -> bool {
     }
 }
 
-/// What a search finds of two symbols. What has no row isn't searched for.
+/// Limits with few states.
+fn few(limits: Limits) -> Limits {
+    Limits {
+        states: limits.states.min(FEW),
+        scans: limits.scans,
+        gap: limits.gap,
+    }
+}
+
+/// What a search finds of two symbols. What has no row isn't searched for. Of the two ways in which they may differ often one has no run, so that a
+/// search for it ends by its limit alone: few states are tried first.
 fn find_one(
     alloc: Global,
     seeking: Seeking<'_>,
@@ -66,7 +79,13 @@ fn find_one(
         limits,
         ..
     } = seeking;
-    seek_difference(alloc, sides, prepared, symbols, there, limits)
+    let found = seek_difference(alloc, sides, prepared, symbols, there, few(limits))?;
+    match found {
+        RunDifference::Open(_) => {
+            seek_difference(alloc, sides, prepared, symbols, there, limits)
+        }
+        settled => Ok(settled),
+    }
 }
 
 /// Adds what searches find of each pair of a sort.
