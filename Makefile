@@ -31,6 +31,8 @@ test:
 	python3 tools/side_by_side.py \
 	  "python3 tests/documents.py $(PROGRAM)" \
 	  "python3 tests/pages.py" \
+	  "python3 tests/rules.py $(PROGRAM)" \
+	  "python3 tests/terminal.py $(PROGRAM)" \
 	  "python3 tests/references.py" \
 	  "python3 tests/lemmas.py" \
 	  "python3 tests/definitions.py --check" \

@@ -43,7 +43,7 @@ def parts(text):
         elif marks == "##" and re.match(r"(\w+): ", heading):
             while lines and not lines[-1]:
                 lines.pop()
-            found[-1][1].append((heading.split(":")[0], heading, "".join(line + "\n" for line in [heading] + lines)))
+            found[-1][1].append((heading.split(":")[0], heading, "".join(line + "\n" for line in [heading] + lines if not line.startswith("<!--"))))
     return [part for part in found if part[1]]
 
 

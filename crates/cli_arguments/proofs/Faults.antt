@@ -32,11 +32,13 @@ use Rattle.cli_arguments.specs.declared.request.ReachRequest.{ReachRequest}
 use Rattle.cli_arguments.specs.declared.lasting.Lasting.TheVariants.{Count, Until}
 use Rattle.cli_arguments.specs.declared.request.Request.TheVariants.{Causes, Check, Film, Groups, Held, Import, Never, Possible, Progress, Reach, Relevant, Show, Sim, Uses, Watch, Waves}
 use Rattle.cli_arguments.specs.declared.request.WordFault.{WordFault}
-use Rattle.cli_arguments.specs.declared.request.WordFault.TheVariants.{Help, Memory, Mistake, Usage}
+use Rattle.cli_arguments.specs.declared.request.WordFault.TheVariants.{Broken, Help, Memory, Mistake, NoCode, Usage}
 use Rattle.cli_arguments.specs.declared.request.Task.TheVariants.{Compare, Explain, Judge, JudgeRuns, Perform, PerformAll}
 
 pub usage_weaker : {P Q : Type 0} (e : WordFault) → (P → Q) → UsageWhere P e → UsageWhere Q e
 usage_weaker Usage f p = f p
+usage_weaker (Broken b) f p = absurd p
+usage_weaker (NoCode word) f p = (f p.0, p.1)
 usage_weaker (Mistake text) f p = absurd p
 usage_weaker (Help text) f p = absurd p
 usage_weaker Memory f p = tt

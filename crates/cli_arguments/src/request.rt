@@ -1,5 +1,6 @@
 //! What the arguments of a command line ask for.
 
+use cli_usage::Broken;
 use thiserror::Error;
 
 /// The form in which groups are written.
@@ -463,10 +464,16 @@ pub struct AllCoils {
 pub enum WordFault {
     #[error("the arguments are no request")]
     Usage,
+    /// They break this rule, of those that `clap` doesn't know.
+    #[error("the arguments don't go together")]
+    Broken(Broken),
+    /// This is the code of no fault.
+    #[error("there is no fault {0}")]
+    NoCode(String),
     /// `clap` finds a fault in them, and this is what it says of it.
     #[error("{0}")]
     Mistake(String),
-    /// They ask for help, and this is its text.
+    /// They ask for help or for the version, and this is its text.
     #[error("{0}")]
     Help(String),
     #[error("out of memory")]

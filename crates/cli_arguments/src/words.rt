@@ -1,17 +1,18 @@
 //! From the arguments of a command line to a request.
 
-ghost use Rattle.std.specs.Prelude.{◌≡◌, [], Bool, codes, IfSome, IsSome, OnOk, IfOk, IfErr, map, string_bytes, None, Some};
+ghost use Rattle.std.specs.Prelude.{◌≡◌, ◌⊎◌, [], Bool, codes, IfSome, IsSome, OnOk, IfOk, IfErr, map, string_bytes, None, Some};
 ghost use Rattle.std.specs.List.{list_all};
 ghost use Rattle.clap.specs.Words.{Text, found_of, kind_of, rows_of, subcommand_rows_of};
 ghost use Rattle.clap.specs.Words.{fault_of as clap_fault};
 ghost use Rattle.cli_options.specs.CommandLine.{ladder_app};
 ghost use Rattle.cli_options.specs.Pages.{is_fault_code};
 ghost use Rattle.cli_arguments.specs.Asking.{Asks, AsksBy, AsksNone, HasControl, HasExcluded, HasNoTask, HasTask, Says};
-ghost use Rattle.cli_arguments.specs.Faults.{IsFaultOf, SaysOf, UsageWhere};
+ghost use Rattle.cli_arguments.specs.Faults.{BreaksIn, IsFaultOf, SaysOf, UsageWhere};
+ghost use Rattle.cli_usage.specs.Rules.{Breaks};
 
 use crate::causes::causes_request;
 use crate::comparing::diff_task;
-use crate::found::{is_set, optional, text, texts};
+use crate::found::{copied, is_set, optional, text, texts};
 use crate::parts::{Sources, sources_of};
 use crate::reaching::reach_request;
 use crate::request::{AllCoils, CommandLine, Excluded, NeverRequest, Request, Task, WordFault};
@@ -20,6 +21,7 @@ use crate::simulating::sim_request;
 use clap::ArgMatches;
 use clap::error::ErrorKind;
 use cli_options::{ladder, page_of};
+use cli_usage::{Broken, broken_rule, rules_of, shared_rules_of};
 use std::alloc::Global;
 
 /// Reads what a command line asks for. Its first word is the program's name.
@@ -42,8 +44,35 @@ pub fn read_words(alloc: Global, words: Vec<String>) -> Result<Task, WordFault>
         return Err(WordFault::Memory);
     };
     match command.try_get_matches_from(words.as_slice()) {
-        Ok(matches) => task_in(alloc, &matches),
+        Ok(matches) => match task_in(alloc, &matches) {
+            Ok(task) => Ok(task),
+            Err(fault) => Err(named(&matches, fault)),
+        },
         Err(error) => Err(fault_of(alloc, &error)),
+    }
+}
+
+/// A fault of words that `clap` takes, with the rule that they break where one is found.
+fn named(matches: &ArgMatches<'_>, fault: WordFault) -> WordFault
+    ensures { (P : Type 0) → UsageWhere P fault.entry → UsageWhere P result ⊎ (P × BreaksIn (subcommand_rows_of matches.now) result) }
+{
+    match fault {
+        WordFault::Usage => match broken_in(matches) {
+            Some(broken) => WordFault::Broken(broken),
+            None => WordFault::Usage,
+        },
+        other => other,
+    }
+}
+
+/// The first rule of the subcommand that the words break.
+fn broken_in(matches: &ArgMatches<'_>) -> Option<Broken>
+    ensures { IfSome result (λ b. IfSome (subcommand_rows_of matches.now) (λ p. Breaks p.1 b) × IsSome (subcommand_rows_of matches.now)) }
+{
+    let (name, found) = matches.subcommand()?;
+    match broken_rule(rules_of(name), found) {
+        Some(broken) => Some(broken),
+        None => broken_rule(shared_rules_of(name), found),
     }
 }
 
@@ -53,7 +82,7 @@ fn fault_of(alloc: Global, error: &clap::Error) -> WordFault
 {
     match error.kind() {
         ErrorKind::OutOfMemory => WordFault::Memory,
-        ErrorKind::DisplayHelp => match error.to_string(alloc) {
+        ErrorKind::DisplayHelp | ErrorKind::DisplayVersion => match error.to_string(alloc) {
             Ok(text) => WordFault::Help(text),
             Err(_) => WordFault::Memory,
         },
@@ -110,9 +139,24 @@ fn explain_task(alloc: Global, found: &ArgMatches<'_>) -> Result<Task, WordFault
 {
     let names = texts(alloc, found, "codes")?;
     if !are_codes(&names) {
-        return Err(WordFault::Usage);
+        return Err(no_code(alloc, &names));
     }
     Ok(Task::Explain(names))
+}
+
+/// That one of these words is no code, with the first such word.
+fn no_code(alloc: Global, names: &[String]) -> WordFault
+    ensures { (P : Type 0) → P → UsageWhere P result }
+{
+    for name in names {
+        if !is_code(name) {
+            return match copied(alloc, name.as_str()) {
+                Ok(name) => WordFault::NoCode(name),
+                Err(fault) => fault,
+            };
+        }
+    }
+    WordFault::Usage
 }
 
 /// Whether a word is the code of a fault, which has a page.

@@ -9,7 +9,7 @@
 -- and without COIL `ladder diff [--looks N] [--reachable] [--save FOLDER] [--quiet] [--aliases] [--why] OLD NEW`
 -- and `ladder diff --runs [--states N] [--save FOLDER] [--quiet] [--aliases] [--why] OLD NEW`;
 -- `ladder import [--open] [--control on] [--hal FILE] [--why] PROJECT`;
--- and `ladder explain [CODE]...`.
+-- `ladder explain [CODE]...`; and `ladder --version`.
 use Rattle.std.specs.Prelude.{◌≡◌, List, Some, [], ◌∷◌, codes, true, false}
 use Rattle.clap.specs.Simple.{new_shape}
 use Rattle.clap.specs.Words.{App, Rule, Text, app_of, new_rule}
@@ -108,10 +108,10 @@ import_app = taking (codes "import") (flag_rule (codes "open") ∷ text_rule (co
 abbrev pub explain_app : App
 explain_app = taking (codes "explain") (list_rule (codes "codes") ∷ [])
 
--- the program, which needs a subcommand
+-- the program, which has a version and needs a subcommand; it shows its help where it has no words
 abbrev pub ladder_app : App
 ladder_app = record {
-  top = record (new_shape (codes "ladder")) { is_leaf = false; subcommand_required = true };
+  top = record (new_shape (codes "ladder")) { is_leaf = false; has_version = true; arg_required_else_help = true; subcommand_required = true };
   subs = check_app.top ∷ causes_app.top ∷ show_app.top ∷ sim_app.top ∷ uses_app.top ∷ never_app.top ∷ reach_app.top ∷ diff_app.top ∷ import_app.top ∷ explain_app.top ∷ [];
 }
 

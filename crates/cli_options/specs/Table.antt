@@ -25,7 +25,7 @@ shape_by sub = (taking sub.name.now (map word_rule sub.words.now)).top
 
 -- the program before it has a subcommand
 abbrev pub bare_app : App
-bare_app = record { top = record (new_shape (codes "ladder")) { subcommand_required = true }; subs = [] }
+bare_app = record { top = record (new_shape (codes "ladder")) { has_version = true; arg_required_else_help = true; subcommand_required = true }; subs = [] }
 
 -- the program with these subcommands too, in their order
 abbrev pub with_all : App → List Subcommand → App

@@ -25,6 +25,9 @@ use crate::help::{
 use clap::{Arg, ArgAction, Command, value_parser};
 use std::alloc::{AllocError, Global};
 
+/// The version of the program.
+const VERSION: &str = "1.0";
+
 /// A word of a subcommand: its name, then the name of its value where it has one, then its help.
 enum Word {
     /// It must be there, and is known by its place.
@@ -310,6 +313,8 @@ fn top<'a>(alloc: Global) -> Command<'a>
     ensures { app_of result ≡ bare_app }
 {
     Command::new(alloc, "ladder")
+        .version(VERSION)
+        .arg_required_else_help(true)
         .subcommand_required(true)
         .about(LADDER_ABOUT)
         .after_help(FAULTS)

@@ -3,12 +3,17 @@
 ghost use Rattle.std.specs.Prelude.{◌≤◌};
 
 use crate::folder::make_folder;
+use crate::refusing::refuse_words;
 use crate::saving::followed;
 use crate::stream::Stream;
 use cli_inputs::{ToolFault, report_unread};
 use io_text::CountedWriter;
 use std::alloc::{AllocError, Global};
 use std::fs;
+
+/// What is said where a file of the folder would replace a program.
+const TAKEN: &str =
+    "usage: --save would replace OLD or NEW, a .csv file of that folder; name another folder\n";
 
 /// The folder, the files of both programs, and whether a fault is explained.
 #[derive(Clone, Copy)]
@@ -48,10 +53,7 @@ impl<'a> DifferenceFolder<'a> {
     {
         match self.are_taken() {
             Ok(false) => (),
-            Ok(true) => {
-                self.refuse(&ToolFault::Usage);
-                return 2;
-            }
+            Ok(true) => return refuse_words(self.rt, self.why, TAKEN),
             Err(_) => return self.refuse(&ToolFault::Memory),
         }
         if make_folder(self.rt, self.folder).is_err() {

@@ -6,13 +6,19 @@ use crate::asking::read_coils;
 use crate::coil::perform_coil;
 use crate::files::read_texts;
 use crate::opening::readers_of;
+use crate::refusing::refuse_words;
 use crate::saving::followed;
 use crate::stream::Stream;
+use crate::unread::Opening;
 use cli_arguments::{AllCoils, CommandLine, GroupFormat, Request, RunsWanted};
 use cli_inputs::{Texts, ToolFault, report, report_unread};
 use io_text::CountedWriter;
 use std::alloc::{AllocError, Global};
 use std::{fs, io};
+
+/// What is said where a list would replace a file that is read.
+const TAKEN: &str =
+    "usage: --all-coils would replace the program or the state; name another folder\n";
 
 /// The form in which a list is written, which gives its file its ending.
 fn form_of(request: &Request) -> GroupFormat {
@@ -219,10 +225,7 @@ impl Lists<'_> {
     {
         match self.are_taken(request, coils) {
             Ok(false) => (),
-            Ok(true) => {
-                self.refuse(&ToolFault::Usage);
-                return 2;
-            }
+            Ok(true) => return refuse_words(self.rt, self.texts.why, TAKEN),
             Err(_) => return self.refuse(&ToolFault::Memory),
         }
         if make_folder(self.rt, self.folder).is_err() {
@@ -246,9 +249,11 @@ impl Lists<'_> {
 
 /// Reads the texts of a request once, for the lists of all coils.
 fn texts_of(rt: &HostRuntime, alloc: Global, line: &CommandLine) -> Result<Texts, ToolFault> {
-    let mut readers = readers_of(rt, &line.request);
+    let opening = Opening::new(rt);
+    let mut readers = readers_of(&opening, &line.request);
     let texts = read_texts(alloc, line, &mut readers);
     drop(readers);
+    drop(opening);
     texts
 }
 

@@ -7,15 +7,18 @@ mod coils;
 mod difference_folder;
 mod files;
 mod folder;
+mod naming;
 mod opening;
 mod performing;
 mod program;
+mod refusing;
 mod request;
 mod runs;
 mod saving;
 mod stream;
 mod telling;
 mod two_texts;
+mod unread;
 mod witnesses;
 
 pub use coil::perform_coil;

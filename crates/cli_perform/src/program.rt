@@ -4,11 +4,14 @@ ghost use Rattle.std.specs.Prelude.{◌≤◌};
 
 use crate::files::perform_files;
 use crate::folder::run_coils;
+use crate::naming::suggest;
 use crate::opening::{diff_readers_of, readers_of, two_readers_of};
+use crate::refusing::{NEVER, explain_faults, is_explained, refuse_words, report, write_usage};
 use crate::runs::run_runs;
 use crate::saving::{SavedFile, followed};
-use crate::stream::Stream;
+use crate::stream::{Standard, Stream};
 use crate::telling::{telling, telling_form};
+use crate::unread::Opening;
 use crate::witnesses::run_witnesses;
 use cli_arguments::{
     CommandLine, DiffRequest, Request, SimRequest, Task, VerdictRequest, WordFault, read_words,
@@ -22,21 +25,24 @@ use std::alloc::{AllocError, Global};
 use std::fs::{self, File};
 use std::io::{self, IsTerminal};
 
-/// What is said of words that `clap` takes and that ask for nothing.
-const CLASH: &str =
-    "usage: no COIL and no --all-coils, options that exclude one another, an INPUT beside --all-inputs or --relevant, or no such order, control or code; \
-    `ladder help` with the name of the subcommand says which there are\n";
+/// What is said where a state would replace what is read or written beside it.
+const TAKEN: &str =
+    "usage: --save would replace the program, the stimulus, or the file that standard output goes to\n";
 
 /// Reads the arguments and the files that they name, and performs the request over the standard streams. Returns
 /// the status: 0 done, 1 a fault in a file or while running, 2 wrong usage. The first argument is the program's name.
 pub fn run(rt: &HostRuntime, alloc: Global, words: Vec<String>) -> u8
     ensures { result ≤ 2 }
 {
-    // Words that can't be taken don't say what the flag means, so it is looked for among them.
-    let why = words.iter().any(|word| word.as_str() == "--why");
+    let mut words = words;
+    let why = is_explained(rt, &words);
+    words.retain(|word| word.as_str() != NEVER);
     match read_words(alloc, words) {
         Ok(task) => {
             let mut task = seen_on(rt, task);
+            if why {
+                explain_faults(&mut task);
+            }
             let status = run_task(rt, alloc, &mut task);
             drop(task);
             status
@@ -106,26 +112,18 @@ fn refuse(rt: &HostRuntime, why: bool, fault: &WordFault) -> u8
 {
     match fault {
         WordFault::Help(text) => show(rt, text.as_str()),
-        WordFault::Mistake(text) => {
-            report_usage(rt, why, text.as_str());
-            2
-        }
-        WordFault::Usage => {
-            report_usage(rt, why, CLASH);
-            2
-        }
         WordFault::Memory => {
             report(rt, &ToolFault::Memory);
             1
         }
-    }
-}
-
-/// Writes the line of wrong usage on standard error, and after it, where that is asked for, what is wrong.
-fn report_usage(rt: &HostRuntime, why: bool, text: &str) {
-    report(rt, &ToolFault::Usage);
-    if why {
-        let _ = put(&mut CountedWriter::new(rt.stderr()), text.as_bytes());
+        WordFault::Mistake(text) => refuse_words(rt, why, text.as_str()),
+        WordFault::Usage | WordFault::Broken(_) | WordFault::NoCode(_) => {
+            report(rt, &ToolFault::Usage);
+            if why {
+                let _ = write_usage(fault, &mut CountedWriter::new(rt.stderr()));
+            }
+            2
+        }
     }
 }
 
@@ -136,16 +134,13 @@ fn explain(rt: &HostRuntime, names: &[String]) -> u8
     if names.is_empty() {
         return show(rt, codes());
     }
-    let mut out = CountedWriter::new(Stream::Output(rt));
+    let standard = Standard::new(rt);
+    let mut out = standard.out();
     let written = write_pages(names, &mut out);
     drop(out);
-    match written {
-        Ok(()) => 0,
-        Err(_) => {
-            report(rt, &ToolFault::Write);
-            1
-        }
-    }
+    let status = ended(&standard, written);
+    drop(standard);
+    status
 }
 
 /// Writes the pages of these faults, a blank line between one and the next.
@@ -181,12 +176,18 @@ fn run_line(rt: &HostRuntime, alloc: Global, line: &CommandLine) -> u8
 fn run_diff(rt: &HostRuntime, alloc: Global, request: &DiffRequest) -> u8
     ensures { result ≤ 2 }
 {
-    let mut readers = diff_readers_of(rt, request);
-    let mut out = CountedWriter::new(Stream::Output(rt));
-    let mut err = CountedWriter::new(rt.stderr());
+    let opening = Opening::new(rt);
+    let mut readers = diff_readers_of(&opening, request);
+    let standard = Standard::new(rt);
+    let mut out = standard.out();
+    let mut err = standard.err();
     let status = compare_files(alloc, request, &mut readers, &mut out, &mut err);
+    drop(err);
     drop(out);
+    drop(standard);
     drop(readers);
+    opening.explain(request.why);
+    drop(opening);
     status
 }
 
@@ -194,12 +195,18 @@ fn run_diff(rt: &HostRuntime, alloc: Global, request: &DiffRequest) -> u8
 fn run_verdicts(rt: &HostRuntime, alloc: Global, request: &VerdictRequest) -> u8
     ensures { result ≤ 2 }
 {
-    let mut readers = two_readers_of(rt, request.old.as_str(), request.new.as_str());
-    let mut out = CountedWriter::new(Stream::Output(rt));
-    let mut err = CountedWriter::new(rt.stderr());
+    let opening = Opening::new(rt);
+    let mut readers = two_readers_of(&opening, request.old.as_str(), request.new.as_str());
+    let standard = Standard::new(rt);
+    let mut out = standard.out();
+    let mut err = standard.err();
     let status = judge_files(alloc, request, &mut readers, &mut out, &mut err);
+    drop(err);
     drop(out);
+    drop(standard);
     drop(readers);
+    opening.explain(request.why);
+    drop(opening);
     status
 }
 
@@ -219,10 +226,7 @@ fn run_saving(
     };
     let status = match is_taken(rt, alloc, sim, &saved) {
         Ok(false) => return run_into(rt, alloc, line, saved),
-        Ok(true) => {
-            report(rt, &ToolFault::Usage);
-            2
-        }
+        Ok(true) => refuse_words(rt, line.why, TAKEN),
         Err(_) => {
             report(rt, &ToolFault::Memory);
             1
@@ -323,12 +327,21 @@ fn run_with(
 ) -> u8
     ensures { result ≤ 1 }
 {
-    let mut readers = readers_of(rt, &line.request);
-    let mut out = CountedWriter::new(Stream::Output(rt));
-    let mut err = CountedWriter::new(rt.stderr());
+    let opening = Opening::new(rt);
+    let mut readers = readers_of(&opening, &line.request);
+    let standard = Standard::new(rt);
+    let mut out = standard.out();
+    let mut err = standard.err();
     let status = perform_files(alloc, line, &mut readers, &mut out, save, &mut err);
+    drop(err);
     drop(out);
+    drop(standard);
     drop(readers);
+    opening.explain(line.why);
+    drop(opening);
+    if status == 1 && line.why {
+        suggest(rt, alloc, line);
+    }
     status
 }
 
@@ -336,19 +349,26 @@ fn run_with(
 fn show(rt: &HostRuntime, text: &str) -> u8
     ensures { result ≤ 1 }
 {
-    let mut out = CountedWriter::new(Stream::Output(rt));
+    let standard = Standard::new(rt);
+    let mut out = standard.out();
     let written = put(&mut out, text.as_bytes());
     drop(out);
+    let status = ended(&standard, written);
+    drop(standard);
+    status
+}
+
+/// The status where a text was written, or was not.
+fn ended(standard: &Standard<'_>, written: Result<(), WriteFault>) -> u8
+    ensures { result ≤ 1 }
+{
     match written {
         Ok(()) => 0,
         Err(_) => {
-            report(rt, &ToolFault::Write);
+            let mut err = standard.err();
+            let _ = write_fault(&ToolFault::Write, &mut err);
+            drop(err);
             1
         }
     }
-}
-
-/// Writes the line of a fault on standard error; where that can't be written, nothing is left to do.
-fn report(rt: &HostRuntime, fault: &ToolFault) {
-    let _ = write_fault(fault, &mut CountedWriter::new(rt.stderr()));
 }

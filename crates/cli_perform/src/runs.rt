@@ -3,7 +3,7 @@
 ghost use Rattle.std.specs.Prelude.{◌≤◌};
 
 use crate::difference_folder::DifferenceFolder;
-use crate::stream::Stream;
+use crate::stream::Standard;
 use crate::two_texts::{refuse_text, texts_of};
 use cli_arguments::DiffRunsRequest;
 use cli_diff::{DiffTexts, Manner};
@@ -72,10 +72,13 @@ fn save_all(folder: DifferenceFolder<'_>, judged: &RunsJudged) -> u8
 fn judge(folder: DifferenceFolder<'_>, request: &DiffRunsRequest, texts: &DiffTexts) -> u8
     ensures { result ≤ 1 }
 {
-    let mut out = CountedWriter::new(Stream::Output(folder.rt));
-    let mut err = CountedWriter::new(folder.rt.stderr());
+    let standard = Standard::new(folder.rt);
+    let mut out = standard.out();
+    let mut err = standard.err();
     let judged = judge_runs(folder.alloc, request, texts, &mut out, &mut err);
+    drop(err);
     drop(out);
+    drop(standard);
     match judged {
         Ok(judged) => {
             let status = match &request.save {

@@ -3,6 +3,7 @@
 ghost use Rattle.std.specs.Prelude.{◌≤◌};
 
 use crate::opening::two_readers_of;
+use crate::unread::Opening;
 use cli_diff::{DiffTexts, Manner, SidedFault, read_texts};
 use cli_inputs::report_unread_by;
 use io_text::CountedWriter;
@@ -16,9 +17,11 @@ pub(crate) fn texts_of(
     old: &str,
     new: &str,
 ) -> Result<DiffTexts, SidedFault> {
-    let mut readers = two_readers_of(rt, old, new);
+    let opening = Opening::new(rt);
+    let mut readers = two_readers_of(&opening, old, new);
     let texts = read_texts(alloc, manner, &mut readers);
     drop(readers);
+    drop(opening);
     texts
 }
 

@@ -3,7 +3,7 @@
 ghost use Rattle.std.specs.Prelude.{◌≤◌};
 
 use crate::difference_folder::DifferenceFolder;
-use crate::stream::Stream;
+use crate::stream::Standard;
 use crate::two_texts::{refuse_text, texts_of};
 use cli_arguments::VerdictRequest;
 use cli_diff::{DiffTexts, Manner};
@@ -83,10 +83,13 @@ impl Witnesses<'_> {
     fn judge(&self, texts: &DiffTexts) -> u8
         ensures { result ≤ 1 }
     {
-        let mut out = CountedWriter::new(Stream::Output(self.folder.rt));
-        let mut err = CountedWriter::new(self.folder.rt.stderr());
+        let standard = Standard::new(self.folder.rt);
+        let mut out = standard.out();
+        let mut err = standard.err();
         let judged = judge_keeping(self.folder.alloc, self.request, texts, &mut out, &mut err);
+        drop(err);
         drop(out);
+        drop(standard);
         match judged {
             Ok(judged) => {
                 let status = self.save_all(&judged);

@@ -1,7 +1,10 @@
 //! The program `ladder`.
 #![tactic(auto)]
 
-use ladder_sim::CountedWriter;
+mod version;
+
+use crate::version::BUILT;
+use ladder_sim::{CountedWriter, put};
 use ladder_tool::{ToolFault, run, write_fault};
 use std::env;
 use std::io::ErrorKind;
@@ -22,6 +25,24 @@ fn report(rt: &HostRuntime, kind: ErrorKind) -> u8 {
     status
 }
 
+/// Whether the arguments ask for the version alone.
+fn asks_version(words: &[String]) -> bool {
+    match words {
+        [_, word] => word.as_str() == "--version" || word.as_str() == "-V",
+        _ => false,
+    }
+}
+
+/// Runs the program on its arguments; the version is followed by what the program is built of. Returns the status.
+fn run_words(rt: &HostRuntime, words: Vec<String>) -> u8 {
+    let is_version = asks_version(&words);
+    let status = run(rt, rt.alloc(), words);
+    if is_version && status == 0 {
+        let _ = put(&mut CountedWriter::new(rt.stdout()), BUILT.as_bytes());
+    }
+    status
+}
+
 /// Collects the arguments and runs the program on them.
 fn main(rt: HostRuntime) -> ExitCode {
     let args = match env::args(&rt) {
@@ -29,7 +50,7 @@ fn main(rt: HostRuntime) -> ExitCode {
         Err(error) => return ExitCode::from(report(&rt, error.kind())),
     };
     let status = match args.collect(rt.alloc()) {
-        Ok(words) => run(&rt, rt.alloc(), words),
+        Ok(words) => run_words(&rt, words),
         Err(_) => report(&rt, ErrorKind::OutOfMemory),
     };
     ExitCode::from(status)

@@ -6,10 +6,10 @@ use Rattle.clap.specs.declared.error.kind.ErrorKind.TheVariants.{OutOfMemory}
 use Rattle.clap.proofs.OnLiterals.{clap_on_literals}
 use Rattle.cli_options.specs.CommandLine.{ladder_app}
 use Rattle.cli_arguments.specs.Asking.{AsksBy, AsksNothing, HasNoTask, HasTask}
-use Rattle.cli_arguments.specs.Faults.{IsFaultOf, SaysOf, UsageWhere}
+use Rattle.cli_arguments.specs.Faults.{BreaksIn, IsFaultOf, SaysOf, UsageWhere}
 use Rattle.cli_arguments.specs.declared.request.Task.{Task}
 use Rattle.cli_arguments.specs.declared.request.WordFault.{WordFault}
-use Rattle.cli_arguments.specs.declared.request.WordFault.TheVariants.{Help, Memory, Mistake, Usage}
+use Rattle.cli_arguments.specs.declared.request.WordFault.TheVariants.{Broken, Help, Memory, Mistake, NoCode, Usage}
 use Rattle.cli_arguments.proofs.words.read_words.Goals as goal
 
 is_simple_ladder : is_simple ladder_app ≡ true
@@ -31,20 +31,31 @@ asks_nothing app words (Some p) same none task asked =
     none task (rw (name, rows) asked.3)
 
 no_request : (app : App) (words : List Text) (o : Option (Text × List Row)) (fault : WordFault) → o ≡ subcommand_of app words
-    → fault_of app words ≡ [] → UsageWhere (IfSome o (λ p. HasNoTask p.0 p.1)) fault → IsFaultOf app words fault
-no_request app words o Usage same clear none = inr (clear, asks_nothing app words o same none)
-no_request app words o (Mistake text) same clear none = absurd none
-no_request app words o (Help text) same clear none = absurd none
+    → fault_of app words ≡ []
+    → UsageWhere (IfSome o (λ p. HasNoTask p.0 p.1)) fault ⊎ (IfSome o (λ p. HasNoTask p.0 p.1) × BreaksIn o fault) → IsFaultOf app words fault
+no_request app words o Usage same clear (inl none) = inr (clear, asks_nothing app words o same none)
+no_request app words o Usage same clear (inr none) = absurd none.1
+no_request app words o (Broken b) same clear (inl none) = absurd none
+no_request app words o (Broken b) same clear (inr none) = (clear, asks_nothing app words o same none.0, none.1.0, sym same ∙ none.1.1, none.1.2)
+no_request app words o (NoCode word) same clear (inl none) = (clear, asks_nothing app words o same none.0, none.1)
+no_request app words o (NoCode word) same clear (inr none) = absurd none.1
+no_request app words o (Mistake text) same clear (inl none) = absurd none
+no_request app words o (Mistake text) same clear (inr none) = absurd none.1
+no_request app words o (Help text) same clear (inl none) = absurd none
+no_request app words o (Help text) same clear (inr none) = absurd none.1
 no_request app words o Memory same clear none = tt
 
 refused : (app : App) (words : List Text) (kind : ErrorKind) (fault : WordFault) → (kind ≡ OutOfMemory) ⊎ IsAmong kind (fault_of app words)
     → SaysOf kind fault → IsFaultOf app words fault
 refused app words kind Usage (inl memory) says = absurd (says.1 memory)
 refused app words kind Usage (inr among) says = inl (kind, among, says.0)
+refused app words kind (Broken b) either says = absurd says
+refused app words kind (NoCode word) either says = absurd says
 refused app words kind (Mistake text) (inl memory) says = absurd (says.1 memory)
 refused app words kind (Mistake text) (inr among) says = (kind, among, says.0)
-refused app words kind (Help text) (inl memory) says = let bad = sym says ∙ memory in cc
-refused app words kind (Help text) (inr among) says = rw says at among
+refused app words kind (Help text) (inl memory) (inl says) = let bad = sym says ∙ memory in cc
+refused app words kind (Help text) (inl memory) (inr says) = let bad = sym says ∙ memory in cc
+refused app words kind (Help text) (inr among) says = (kind, among, says)
 refused app words kind Memory either says = tt
 
 is_free_ladder : is_simple_and_free ladder_app ≡ true
