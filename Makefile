@@ -37,6 +37,7 @@ test:
 	  "python3 tests/seconds.py --check" \
 	  "python3 tests/mutants.py --where" \
 	  "python3 tests/completions.py $(PROGRAM)" \
+	  "python3 tests/editors.py" \
 	  "python3 tests/waves.py $(PROGRAM)" \
 	  "python3 tests/aliases.py $(PROGRAM)" \
 	  "python3 tests/filling.py $(PROGRAM)" \
@@ -79,6 +80,11 @@ install: bin/ladder
 	install -D -m 644 completions/ladder.bash $(DESTDIR)$(PREFIX)/share/bash-completion/completions/ladder
 	install -D -m 644 completions/_ladder $(DESTDIR)$(PREFIX)/share/zsh/site-functions/_ladder
 	install -D -m 644 completions/ladder.fish $(DESTDIR)$(PREFIX)/share/fish/vendor_completions.d/ladder.fish
+	for folder in ftdetect ftplugin syntax; do \
+	  install -D -m 644 share/vim/vimfiles/$$folder/ladder.vim $(DESTDIR)$(PREFIX)/share/vim/vimfiles/$$folder/ladder.vim || exit 1; \
+	done
+	install -d $(DESTDIR)$(PREFIX)/share/ladder
+	cp -R share/vscode $(DESTDIR)$(PREFIX)/share/ladder
 	install -d $(DESTDIR)$(PREFIX)/share/doc/ladder
 	install -m 644 README.md LICENSE $(DESTDIR)$(PREFIX)/share/doc/ladder
 	cp -R docs examples $(DESTDIR)$(PREFIX)/share/doc/ladder
