@@ -230,7 +230,7 @@ def help_entries(program, words):
     text = subprocess.run([program, *words, "--help"], stdout=subprocess.PIPE, check=True).stdout.decode()
     found = set()
     for line in re.sub(r"(?s)\nA line `fault.*", "", text).splitlines():
-        entry = re.match(r"  +(-h, --help|--[\w-]+(?: <\w+>)?|<\w+>|\[\w+\](?:\.\.\.)?|[a-z]+)(  |$)", line)
+        entry = re.match(r" {2,6}(-h, --help|--[\w-]+(?: <\w+>)?|<\w+>|\[\w+\](?:\.\.\.)?|[a-z]+)(  |$)", line)
         if entry:
             found.add(re.sub(r"[][<>.]", "", entry[1]))
     return found
