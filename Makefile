@@ -1,9 +1,10 @@
 # The toolchain's command `rt` proves, builds and tests; nothing else is needed, and nothing is fetched.
 PREFIX ?= /usr/local
 PROGRAM := crates/ladder/out/ladder
+BUILT := bin/ladder
 SOURCES := crates.txt $(shell find crates -path '*/out' -prune -o -type f -print)
 
-.PHONY: all run try test stress mutants browser samples bench install clean
+.PHONY: all run try test stress mutants browser samples bench install install-files dist clean
 
 all: bin/ladder
 
@@ -39,6 +40,8 @@ test:
 	  "python3 tests/seconds.py --check" \
 	  "python3 tests/mutants.py --where" \
 	  "python3 tests/completions.py $(PROGRAM)" \
+	  "python3 tests/editors.py" \
+	  "python3 tests/distribution.py $(PROGRAM)" \
 	  "python3 tests/waves.py $(PROGRAM)" \
 	  "python3 tests/aliases.py $(PROGRAM)" \
 	  "python3 tests/filling.py $(PROGRAM)" \
@@ -76,14 +79,27 @@ bench: bin/ladder
 	python3 bench/bench.py bin/ladder
 
 install: bin/ladder
-	install -D -m 755 bin/ladder $(DESTDIR)$(PREFIX)/bin/ladder
+	@$(MAKE) --no-print-directory install-files BUILT=bin/ladder
+
+# The same of a program that is there, without building it.
+install-files:
+	install -D -m 755 $(BUILT) $(DESTDIR)$(PREFIX)/bin/ladder
 	install -D -m 644 man/ladder.1 $(DESTDIR)$(PREFIX)/share/man/man1/ladder.1
 	install -D -m 644 completions/ladder.bash $(DESTDIR)$(PREFIX)/share/bash-completion/completions/ladder
 	install -D -m 644 completions/_ladder $(DESTDIR)$(PREFIX)/share/zsh/site-functions/_ladder
 	install -D -m 644 completions/ladder.fish $(DESTDIR)$(PREFIX)/share/fish/vendor_completions.d/ladder.fish
+	for folder in ftdetect ftplugin syntax; do \
+	  install -D -m 644 share/vim/vimfiles/$$folder/ladder.vim $(DESTDIR)$(PREFIX)/share/vim/vimfiles/$$folder/ladder.vim || exit 1; \
+	done
+	install -d $(DESTDIR)$(PREFIX)/share/ladder
+	cp -R share/vscode $(DESTDIR)$(PREFIX)/share/ladder
 	install -d $(DESTDIR)$(PREFIX)/share/doc/ladder
 	install -m 644 README.md LICENSE $(DESTDIR)$(PREFIX)/share/doc/ladder
 	cp -R docs examples $(DESTDIR)$(PREFIX)/share/doc/ladder
+
+# One archive for all systems like this one, and a package of Debian, so that one person proves and others install.
+dist: bin/ladder
+	python3 tools/distribution.py bin/ladder bin
 
 clean:
 	rm -rf bin crates/*/out

@@ -3,12 +3,14 @@
 
 For each program of examples/, in the fresh state with its inputs OFF and with all of them ON: the text that the browser has is that of
 the drawing, line by line, and a picture in the light and in the dark mode is made, which differ. For each stimulus with a trace: the page
-of its film has the drawing for each record, and shows another one where the last button is chosen. FOLDER gets the pages and pictures,
-to be looked at. Needs chromium; without it the test is passed over.
+of its film has the drawing for each record and a button with its moment; at first it looks as if the first one were chosen, and shows
+another drawing where the last one is. Printed, each drawing is on one sheet, and no sheet has less than one. FOLDER gets the pages and
+pictures, to be looked at. Needs chromium; without it the test is passed over. What is printed is read by pdftotext, if it is installed.
 """
 import html.parser
 import os
 import pathlib
+import re
 import shutil
 import subprocess
 import sys
@@ -18,6 +20,7 @@ ROOT = pathlib.Path(__file__).resolve().parent.parent
 BROWSERS = ("chromium", "chromium-browser", "google-chrome")
 MODES = {"light": "1", "dark": "0"}
 BUTTON = "<input type=radio name=record"
+WORDS = re.compile(r"<label><input type=radio name=record>(.*?)</label>")
 
 
 class Preformatted(html.parser.HTMLParser):
@@ -64,19 +67,45 @@ def text_faults(browser, lines, words, page):
     return wrong + (["there is a script"] if found.has_script else [])
 
 
+def picture_of(browser, page, scheme, *words):
+    """A picture of a page in the light or the dark mode."""
+    picture = page.with_suffix(".png")
+    opened(browser, page, f"--blink-settings=preferredColorScheme={scheme}", "--window-size=1250,1000", f"--screenshot={picture}", *words)
+    return picture.read_bytes()
+
+
 def film_faults(browser, program, words, stimulus, page):
     """What is wrong with the page of a film."""
-    records = len(stimulus.read_text("ascii").splitlines()) - 1
-    wrong = text_faults(browser, drawing(program) * records, words, page)
-    text, chosen = page.read_text("ascii"), page.with_suffix(".last.html")
-    before, last = text.rsplit(BUTTON, 1)
-    chosen.write_text(f"{before}{BUTTON} checked{last}", "ascii")
-    pictures = [one.with_suffix(".png") for one in (page, chosen)]
-    for one, picture in zip((page, chosen), pictures):
-        opened(browser, one, "--window-size=1250,1000", f"--screenshot={picture}")
-    if len({picture.read_bytes() for picture in pictures}) != len(pictures):
+    moments = [record.split(",")[0] for record in stimulus.read_text("ascii").splitlines()[1:]]
+    wrong = text_faults(browser, drawing(program) * len(moments), words, page)
+    text, pages = page.read_text("ascii"), {"as it is": page}
+    if WORDS.findall(text) != [f"{moment} ms" for moment in moments]:
+        wrong.append("a moment isn't on its button")
+    for name, (before, behind) in {"first": text.split(BUTTON, 1), "last": text.rsplit(BUTTON, 1)}.items():
+        pages[name] = page.with_suffix(f".{name}.html")
+        pages[name].write_text(f"{before}{BUTTON} checked{behind}", "ascii")
+    pictures = {name: picture_of(browser, one, MODES["light"]) for name, one in pages.items()}
+    if pictures["as it is"] != pictures["first"]:
+        wrong.append("the first button doesn't look chosen at first")
+    if pictures["last"] == pictures["first"]:
         wrong.append("the last button shows nothing else")
-    return wrong
+    pages["dark"] = page.with_suffix(".dark.html")
+    pages["dark"].write_text(text, "ascii")
+    if picture_of(browser, pages["dark"], MODES["dark"]) == pictures["as it is"]:
+        wrong.append("the modes look alike")
+    return wrong + print_faults(browser, page, len(moments))
+
+
+def print_faults(browser, page, count):
+    """What is wrong with the sheets of a film of so many drawings, each of which fits on one."""
+    paper = page.with_suffix(".pdf")
+    opened(browser, page, f"--print-to-pdf={paper}", "--no-pdf-header-footer")
+    if not shutil.which("pdftotext"):
+        return []
+    text = subprocess.run(["pdftotext", "-layout", paper, "-"], stdout=subprocess.PIPE, check=True).stdout.decode()
+    sheets = [(sheet.count("At "), sheet.count("After it:")) for sheet in text.split("\f")[:-1]]
+    whole = all(begun == ended > 0 for begun, ended in sheets)
+    return [] if whole and sum(begun for begun, _ in sheets) == count else [f"printed, drawings begin and end on sheets as {sheets}"]
 
 
 def faults(browser, program, words, page):
@@ -110,6 +139,8 @@ def main():
                     print(f"{page.name}: {fault}")
         for trace in sorted(ROOT.glob("examples/*/*.trace.csv")):
             stimulus = trace.with_name(trace.name.replace(".trace", ""))
+            if not stimulus.exists():
+                continue
             program = next(path for path in sorted(trace.parent.glob("*.ld")) if path.stem != "draft")
             page = folder / f"{trace.parent.name}.{stimulus.stem}.film.html"
             wrong = film_faults(browser, program, [ladder, "show", "--html", "--stimulus", stimulus, program], stimulus, page)

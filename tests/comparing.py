@@ -15,7 +15,7 @@ from model import FORMS, Program, classes_answer, judged_answer, text_of
 from running import Running, bits_of
 from transcript import differences, run
 
-FRAME = re.compile(r'<input type=radio name=record title="(.*?)">\n<pre>\n(.*?)</pre>', re.DOTALL)
+FRAME = re.compile(r'<label><input type=radio name=record>(.*?)</label>\n<pre>\n(.*?)</pre>', re.DOTALL)
 MOST_BITS = 18
 SORTS = ("fresh", "left", "random")
 
@@ -107,17 +107,25 @@ def marked(element):
     return signs[kind] * len(text)
 
 
-def without_legend(text, length):
-    """The lines without the first ones behind the inputs, which say what the marks mean."""
+def without_legend(text):
+    """The lines of a text without the one behind the inputs, which says what the marks mean."""
     lines = text.splitlines()
     legend = next(number for number, line in enumerate(lines) if line.startswith("(* ==="))
-    return lines[:legend] + lines[legend + length:]
+    return lines[:legend] + lines[legend + 1:]
+
+
+def commented(lines):
+    """The head or the end of a page as the comments that the text has there."""
+    return [f"(* {line[0].lower()}{line[1:]} *)" if not line.startswith("    ") else f"(* {line[4:]} *)" for line in lines]
 
 
 def read_page(page):
-    """The marked drawing that a page shows."""
+    """The lines of the marked drawing that a page shows, without those that say what the looks mean."""
     body = page.split("<pre>\n", 1)[1].rsplit("</pre>", 1)[0]
-    return html.unescape(re.sub(r"<([bi]) class=(\w)>(.*?)</\1>", marked, body))
+    lines = html.unescape(re.sub(r"<([bi]) class=(\w)>(.*?)</\1>", marked, body)).splitlines()
+    legend = next(number for number, line in enumerate(lines) if line.startswith("==== has power"))
+    end = max(number for number, line in enumerate(lines) if line.startswith("After it:"))
+    return commented(lines[:legend]) + lines[legend + 2:end] + commented(lines[end:])
 
 
 def compare_shown(trial):
@@ -131,7 +139,7 @@ def compare_shown(trial):
     page, said, status = trial.ask("show", "--html", *asked)
     trial.tally["lines"] += 2 * drawn.count("\n")
     trial.tally["places where power ends"] += drawn.count("(* row ")
-    return found + differences((without_legend(read_page(page.decode()), 2), said, status), (without_legend(drawn, 1), b"", 0))
+    return found + differences((read_page(page.decode()), said, status), (without_legend(drawn), b"", 0))
 
 
 def stimulus(chance, listed):
@@ -189,8 +197,8 @@ def compare_film(trial):
     asked = [*explained, "--stimulus", "stimulus.csv", "program.ld"]
     found = differences(trial.ask("show", *asked), ("".join(f"{one}\n" for one in pictures).encode(), b"", 0))
     page, said, status = trial.ask("show", "--html", *asked)
-    shown = [(title, without_legend(read_page(f"<pre>\n{body}</pre>"), 2)) for title, body in FRAME.findall(page.decode())]
-    wanted = [(f"{moment} ms", without_legend(one, 1)) for (moment, _), one in zip(records, pictures)]
+    shown = [(words, read_page(f"<pre>\n{body}</pre>")) for words, body in FRAME.findall(page.decode())]
+    wanted = [(f"{moment} ms", without_legend(one)) for (moment, _), one in zip(records, pictures)]
     return found + differences((shown, said, status), (wanted, b"", 0))
 
 

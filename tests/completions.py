@@ -62,7 +62,7 @@ LINES = [
 def options(program, words):
     """The long options that help tells."""
     text = subprocess.run([program, *words, "--help"], stdout=subprocess.PIPE, check=True).stdout.decode()
-    return sorted(set(re.findall(r"^ +(?:-h, )?(--[a-z-]+)", text, re.M)))
+    return sorted(set(re.findall(r"^ {2,6}(?:-h, )?(--[a-z-]+)", text, re.M)))
 
 
 def bash(words, word, folder, path):

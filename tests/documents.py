@@ -43,7 +43,7 @@ SHOWN = [f"V{number}" for number in range(1, 9)] + ["A1"] + [f"G{number}" for nu
 SHOWN += [f"C{number}" for number in range(1, 7)] + ["C8"] + [f"X{number}" for number in range(1, 7)] + [f"P{number}" for number in range(1, 7)] + ["usage"]
 TOLD = ["V9", "C7", "S1", "X7", "P7", "P8"]
 # the folders whose paths are looked for
-FOLDERS = ["bench", "completions", "crates", "docs", "examples", "man", "tests"]
+FOLDERS = ["bench", "completions", "crates", "docs", "examples", "man", "share", "tests", "tools"]
 WORDS = ["one", "two", "three", "four", "five", "six", "seven", "eight", "nine", "ten", "eleven", "twelve", "thirteen", "fourteen", "fifteen",
          "sixteen", "seventeen", "eighteen", "nineteen", "twenty"]
 NUMBER = r"(\d{1,3}(?:,\d{3})+|\d+|" + "|".join(sorted(WORDS, key=len, reverse=True)) + ")"
@@ -230,7 +230,7 @@ def help_entries(program, words):
     text = subprocess.run([program, *words, "--help"], stdout=subprocess.PIPE, check=True).stdout.decode()
     found = set()
     for line in re.sub(r"(?s)\nA line `fault.*", "", text).splitlines():
-        entry = re.match(r"  +(-h, --help|--[\w-]+(?: <\w+>)?|<\w+>|\[\w+\](?:\.\.\.)?|[a-z]+)(  |$)", line)
+        entry = re.match(r" {2,6}(-h, --help|--[\w-]+(?: <\w+>)?|<\w+>|\[\w+\](?:\.\.\.)?|[a-z]+)(  |$)", line)
         if entry:
             found.add(re.sub(r"[][<>.]", "", entry[1]))
     return found

@@ -27,7 +27,7 @@ import sys
 ROOT = pathlib.Path(__file__).resolve().parent.parent
 CRATES = ROOT / "crates"
 CRATE_NAMES = {path.name for path in CRATES.iterdir()}
-FOLDERS = ("tests", "docs", "bench", "man", "examples", "completions", "bin")
+FOLDERS = ("tests", "docs", "bench", "man", "examples", "completions", "share", "tools", "bin")
 # words that are in no file of the tree: of the toolchain, of examples of changes, and files at the top
 OTHER = {"Makefile", "MissingCases", "RETAIN", "IsEmpty", "diff"}
 COMMANDS = {"causes", "diff", "never", "reach", "show", "sim", "uses", "check", "import", "explain"}

@@ -44,6 +44,21 @@ def help_is_printed(*words):
     return lambda program, folder: differences(run(program, words, folder), (..., b"", 0))
 
 
+def help_fits(program, folder):
+    """Each line of help has at most 80 characters, and each subcommand two examples, whose words are those of a request."""
+    for name, text in EXAMPLE_FILES.items():
+        (folder / name).write_bytes(text if isinstance(text, bytes) else text.read_bytes())
+    wide, counts, statuses = [], [], []
+    for name in (None, *OF_PROGRAMS, *WITHOUT_ALIASES):
+        lines = run(program, ["help", *([name] if name else [])], folder)[0].decode().splitlines()
+        wide += [line for line in lines if len(line) > 80]
+        if name:
+            shown = [re.split(r"  +| > ", line.strip())[0] for line in lines if line.startswith("  ladder ")]
+            counts.append(len(shown) if "Examples:" in lines else None)
+            statuses += [(line, status) for line in shown for status in [run(program, line.split()[1:], folder)[2]] if status != 0]
+    return differences((wide, counts, statuses), ([], [2] * len(counts), []))
+
+
 def aliases_in_help(program, folder):
     """What prints names of a program has the option, also beside the one for help; a stimulus keeps the names."""
     told = {name: b"      --aliases  " in run(program, [name, "--help"], folder)[0] for name in (*OF_PROGRAMS, *WITHOUT_ALIASES)}
@@ -142,6 +157,24 @@ def stimulus_from_a_pipe(program, folder):
 
 OF_PROGRAMS = ("check", "causes", "show", "sim", "uses", "never", "diff")
 WITHOUT_ALIASES = ("reach", "import", "explain")
+# the files that the examples of help name
+PLANT = b"""VAR
+  Start AT %IX0 : BOOL;
+  Stop AT %IX1 : BOOL;
+  Motor AT %QX0 : BOOL;
+  Valve AT %QX1 : BOOL;
+END_VAR
+
+|   Start       Stop        Motor
+|----| |----+----|/|---------( )----
+|   Motor   |
+|----| |----+
+
+|   Motor       Valve
+|----| |---------( )----
+"""
+EXAMPLE_FILES = {"plant.ld": PLANT, "old.ld": PLANT, "new.ld": PLANT.replace(b"|/|", b"| |"), "day.csv": b"moment,Start,Stop\n0,1,0\n500,0,0\n",
+                 "plant.clp": ROOT / "examples/classicladder/coolant.clp", "plant.hal": b"net start-button => classicladder.0.in-00\n"}
 CAUSES = ["causes", "motor.ld", "Motor", "Start", "Stop"]
 SIM = ["sim", "motor.ld", "stimulus.csv"]
 STATE = ["causes", "--state", "state.csv", "motor.ld", "Motor"]
@@ -199,6 +232,7 @@ SPECIAL = {
     "diff/verdicts-on-a-full-device": on_a_stream(["diff", "motor.ld", "motor.ld"], "stdout", full_device, (None, b"fault X6\n", 1)),
     "diff/on-a-full-device": on_a_stream(["diff", "motor.ld", "motor.ld", "Motor"], "stdout", full_device, (None, b"fault X6\n", 1)),
     "aliases/in-help": aliases_in_help,
+    "words/help/lines-and-examples": help_fits,
     "words/help/import": help_is_printed("import", "--help"),
     "causes/upto/parts-of-32-inputs": parts_of_32_inputs,
     "streams/rows-on-a-full-device": on_a_stream(CAUSES, "stdout", full_device, (None, b"fault X6\n", 1)),

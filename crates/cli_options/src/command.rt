@@ -5,6 +5,7 @@ ghost use Rattle.clap.specs.Words.{App, app_of, rule_of};
 ghost use Rattle.cli_options.specs.CommandLine.{IsApp, causes_app, check_app, ladder_app, never_app, show_app, sim_app, taking, uses_app};
 ghost use Rattle.cli_options.specs.Table.{bare_app, with_all, word_rule};
 
+use crate::examples;
 use crate::help::{
     AFTER_HELP, ALIASES_HELP, ALL_COILS_HELP, ALL_HELP, ANY_HELP, AT_HELP, CAUSES_ABOUT,
     CHECK_ABOUT, CODES_HELP, COIL_HELP, CONTROL_HELP, DIFF_ABOUT, DIFF_AFTER_HELP, DIFF_ALL_HELP,
@@ -55,6 +56,8 @@ struct Subcommand {
     name: &'static str,
     about: &'static str,
     words: &'static [Word],
+    /// Lines of examples, which stand below its help.
+    examples: &'static str,
 }
 
 const CHECK: &[Word] = &[
@@ -200,11 +203,13 @@ const FIRST_SUBCOMMANDS: &[Subcommand] = &[
         name: "check",
         about: CHECK_ABOUT,
         words: CHECK,
+        examples: examples::CHECK,
     },
     Subcommand {
         name: "causes",
         about: CAUSES_ABOUT,
         words: CAUSES,
+        examples: examples::CAUSES,
     },
 ];
 
@@ -213,21 +218,25 @@ const VIEW_SUBCOMMANDS: &[Subcommand] = &[
         name: "show",
         about: SHOW_ABOUT,
         words: SHOW,
+        examples: examples::SHOW,
     },
     Subcommand {
         name: "sim",
         about: SIM_ABOUT,
         words: SIM,
+        examples: examples::SIM,
     },
     Subcommand {
         name: "uses",
         about: USES_ABOUT,
         words: USES,
+        examples: examples::USES,
     },
     Subcommand {
         name: "never",
         about: NEVER_ABOUT,
         words: NEVER,
+        examples: examples::NEVER,
     },
 ];
 
@@ -236,21 +245,25 @@ const OTHER_SUBCOMMANDS: &[Subcommand] = &[
         name: "reach",
         about: REACH_ABOUT,
         words: REACH,
+        examples: examples::REACH,
     },
     Subcommand {
         name: "diff",
         about: DIFF_ABOUT,
         words: DIFF,
+        examples: examples::DIFF,
     },
     Subcommand {
         name: "import",
         about: IMPORT_ABOUT,
         words: IMPORT,
+        examples: examples::IMPORT,
     },
     Subcommand {
         name: "explain",
         about: EXPLAIN_ABOUT,
         words: EXPLAIN,
+        examples: examples::EXPLAIN,
     },
 ];
 
@@ -301,7 +314,9 @@ fn arg_of<'a>(alloc: Global, word: &'a Word) -> Arg<'a>
 fn subcommand_of<'a>(alloc: Global, sub: &'a Subcommand) -> Result<Command<'a>, AllocError>
     ensures { IfOk result (IsApp (taking sub.now.name.now (map word_rule sub.now.words.now))) }
 {
-    let mut command = Command::new(alloc, sub.name).about(sub.about);
+    let mut command = Command::new(alloc, sub.name)
+        .about(sub.about)
+        .after_help(sub.examples);
     for word in sub.words {
         command = command.arg(arg_of(alloc, word))?;
     }

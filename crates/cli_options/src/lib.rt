@@ -4,6 +4,7 @@
 mod command;
 mod declarations;
 mod drawing;
+mod examples;
 mod files;
 mod help;
 mod list;

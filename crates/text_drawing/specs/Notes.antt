@@ -60,41 +60,46 @@ is_among false v = not (is_input v)
 abbrev pub noted_before : Bool → List Var → ℕ → ℕ
 noted_before inputs vars var = count_by (is_among inputs) (take var vars)
 
--- A value, where so many come before it: a comment has eight values.
-abbrev pub value_text : ℕ → List ℕ → Bool → List ℕ
-value_text many name value =
-    (if nat_lt 0 many && many % 8 == 0 then codes " *)\n(* " else codes " ") ++ (name ++ (if value then codes "=1" else codes "=0"))
+-- A value, where so many come before it: a line has eight values, and then a gap.
+abbrev pub value_text : List ℕ → ℕ → List ℕ → Bool → List ℕ
+value_text gap many name value =
+    (if nat_lt 0 many && many % 8 == 0 then gap else codes " ") ++ (name ++ (if value then codes "=1" else codes "=0"))
 
 -- a variable with its value, where it is one of these
-abbrev pub var_note : Bool → Standing → ℕ → ℕ → Option Var → List ℕ
-var_note inputs after many var None = []
-var_note inputs after many var (Some v) =
-    if is_among inputs v then value_text many v.title (slice_index_or after.held.values var false) else []
+abbrev pub var_note : List ℕ → Bool → Standing → ℕ → ℕ → Option Var → List ℕ
+var_note gap inputs after many var None = []
+var_note gap inputs after many var (Some v) =
+    if is_among inputs v then value_text gap many v.title (slice_index_or after.held.values var false) else []
 
-abbrev pub numbered_note : Bool → Declared → Standing → ℕ → List ℕ
-numbered_note inputs declared after var = var_note inputs after (noted_before inputs declared.vars var) var (slice_get declared.vars var)
+abbrev pub numbered_note : List ℕ → Bool → Declared → Standing → ℕ → List ℕ
+numbered_note gap inputs declared after var = var_note gap inputs after (noted_before inputs declared.vars var) var (slice_get declared.vars var)
 
-abbrev pub var_notes : Bool → Declared → Standing → List ℕ
-var_notes inputs declared after = each (numbered_note inputs declared after) (length declared.vars)
+abbrev pub var_notes : List ℕ → Bool → Declared → Standing → List ℕ
+var_notes gap inputs declared after = each (numbered_note gap inputs declared after) (length declared.vars)
 
-abbrev pub moment_text : Standing → List ℕ
-moment_text after = codes "(* at " ++ (decimal after.moment ++ codes " ms:")
+abbrev pub moment_text : List ℕ → Standing → List ℕ
+moment_text begin after = begin ++ (decimal after.moment ++ codes " ms:")
+
+-- Above the drawing: the moment of the scan behind `begin`, its inputs with `gap` behind each eight, and what the marks mean.
+abbrev pub above : List ℕ → List ℕ → Drawing → Standing → List ℕ → List ℕ
+above begin gap p after meaning = moment_text begin after ++ (var_notes gap true p.decls after ++ meaning)
+
+-- Below it: the other variables, as the scan leaves them, between `begin` and `end`.
+abbrev pub below : List ℕ → List ℕ → Drawing → Standing → List ℕ → List ℕ
+below begin gap p after end = begin ++ (var_notes gap false p.decls after ++ end)
+
+-- ---- as text: comments
 
 -- What the marks mean, after the end of the line above it.
 abbrev pub legend : List ℕ
 legend = codes " *)\n(* === live  [ ] closed, or Q is ON  { } ON after its rung  ... passed over *)\n"
 
--- Above the drawing: the moment of the scan, its inputs and what the marks mean.
-abbrev pub above : Drawing → Standing → List ℕ → List ℕ
-above p after meaning = moment_text after ++ (var_notes true p.decls after ++ meaning)
-
 abbrev pub head_line : Drawing → Standing → List ℕ
-head_line p after = above p after legend
+head_line p after = above (codes "(* at ") (codes " *)\n(* ") p after legend
 
--- Below it: the other variables, as the scan leaves them.
-
-abbrev pub tail_line : Drawing → Standing → List ℕ
-tail_line p after = codes "\n(* after it:" ++ (var_notes false p.decls after ++ codes " *)\n")
+-- end: that of the last comment, and what follows it
+abbrev pub tail_line : Drawing → Standing → List ℕ → List ℕ
+tail_line p after end = below (codes "\n(* after it:") (codes " *)\n(* ") p after end
 
 -- ---- the whole text
 

@@ -13,7 +13,7 @@ use Rattle.scan_cycle.specs.Standing.{Standing}
 use Rattle.text_drawing.specs.declared.look.Look.{Look}
 use Rattle.text_drawing.specs.declared.look.Look.TheVariants.{Plain, Rail, Passed, Wire, Link, Joint, On}
 use Rattle.text_drawing.specs.declared.page.TheConstants.{BUTTON_START, FRAMES_STYLE, PAGE_LEGEND, PAGE_OPENING, PAGE_STYLE}
-use Rattle.text_drawing.specs.Notes.{above, tail_line}
+use Rattle.text_drawing.specs.Notes.{above, below}
 use Rattle.text_power.specs.Show.{each, mark_in}
 use Rattle.text_drawing.specs.Marked.{is_line_of}
 
@@ -124,13 +124,20 @@ page_begun title rest = page_opening ++ (title ++ (page_style ++ rest))
 unfoldable pub page_start : List ℕ
 page_start = page_begun (codes "diagram") (codes "</style>\n<pre>\n")
 
--- Above the drawing: the moment of the scan and its inputs, as in the text, and what the looks mean.
-abbrev pub page_head : Drawing → Standing → List ℕ
-page_head p after = page_start ++ above p after page_legend
+-- Above the drawing: the moment of the scan and its inputs, and what the looks mean. They are what the text has, without the signs of its
+-- comments.
+abbrev pub page_above : Drawing → Standing → List ℕ
+page_above p after = above (codes "At ") (codes "\n    ") p after page_legend
 
--- Below it: the other variables, as in the text.
+-- Below it: the other variables.
+abbrev pub page_below : Drawing → Standing → List ℕ → List ℕ
+page_below p after end = below (codes "\nAfter it:") (codes "\n    ") p after end
+
+abbrev pub page_head : Drawing → Standing → List ℕ
+page_head p after = page_start ++ page_above p after
+
 abbrev pub page_tail : Drawing → Standing → List ℕ
-page_tail p after = tail_line p after ++ codes "</pre>\n</html>\n"
+page_tail p after = page_below p after (codes "\n</pre>\n</html>\n")
 
 -- ---- a page of many pictures
 
@@ -141,16 +148,16 @@ frames_style = FRAMES_STYLE.now
 unfoldable pub frames_start : List ℕ
 frames_start = page_begun (codes "film") frames_style
 
--- what begins a button, up to its title
+-- what begins a button, up to its words
 unfoldable pub button_start : List ℕ
 button_start = BUTTON_START.now
 
--- The title of a picture's button is the moment of its scan.
+-- On a picture's button stands the moment of its scan.
 abbrev pub button : Standing → List ℕ
-button after = button_start ++ (decimal after.moment ++ codes " ms\">\n<pre>\n")
+button after = button_start ++ (decimal after.moment ++ codes " ms</label>\n<pre>\n")
 
 abbrev pub frame_head : Drawing → Standing → List ℕ
-frame_head p after = button after ++ above p after page_legend
+frame_head p after = button after ++ page_above p after
 
 abbrev pub frame_tail : Drawing → Standing → List ℕ
-frame_tail p after = tail_line p after ++ codes "</pre>\n"
+frame_tail p after = page_below p after (codes "\n</pre>\n")

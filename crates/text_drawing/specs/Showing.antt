@@ -71,8 +71,8 @@ head_of PageFrame p after = frame_head p after
 
 -- An empty line stands between two texts.
 abbrev pub tail_of : Style → Drawing → Standing → List ℕ
-tail_of Marked p after = tail_line p after
-tail_of MarkedFrame p after = tail_line p after ++ codes "\n"
+tail_of Marked p after = tail_line p after (codes " *)\n")
+tail_of MarkedFrame p after = tail_line p after (codes " *)\n\n")
 tail_of Page p after = page_tail p after
 tail_of PageFrame p after = frame_tail p after
 

@@ -1,9 +1,9 @@
 //! What is written beside the drawing.
 
-ghost use Rattle.std.specs.Prelude.{◌≡◌, ◌<◌, ◌≤◌, ◌+◌, ◌++◌, length, option_map};
+ghost use Rattle.std.specs.Prelude.{◌≡◌, ◌<◌, ◌≤◌, ◌+◌, length, option_map};
 ghost use Rattle.diagram_program.specs.declared.geometry.TheConstants.{PLACES};
 ghost use Rattle.io_text.specs.Buffer.{Sends};
-ghost use Rattle.text_drawing.specs.Notes.{above, cell_note, instance_note, is_among, moment_text, noted_before, numbered_note, place_note, rung_notes, stored_note, tail_line, value_text, var_notes};
+ghost use Rattle.text_drawing.specs.Notes.{above, below, cell_note, instance_note, is_among, moment_text, noted_before, numbered_note, place_note, rung_notes, stored_note, value_text, var_notes};
 ghost use Rattle.text_drawing.specs.Pictures.{counter_note, timer_note};
 
 use crate::picture::Picture;
@@ -180,18 +180,19 @@ fn is_among(inputs: bool, var: &Var) -> bool
     }
 }
 
-/// Adds one variable with its value; after every eighth one a new comment line begins.
-fn add_value<W: Sink>(
+/// Adds one variable with its value; after every eighth one there is a gap.
+fn add_value<'a, W: Sink>(
     buffer: &mut TextBuffer,
+    gap: &'a [u8],
     many: usize,
-    name: &[u8],
+    name: &'a [u8],
     value: bool,
     writer: &mut W,
 ) -> Result<(), WriteFault>
-    ensures { Sends (W.log writer.old) (W.log writer.new) buffer.old buffer.new result (value_text many name.now value) }
+    ensures { Sends (W.log writer.old) (W.log writer.new) buffer.old buffer.new result (value_text gap.now many name.now value) }
 {
     let lead = if 0 < many && many % 8 == 0 {
-        Piece::Text(b" *)\n(* ")
+        Piece::Text(gap)
     } else {
         Piece::Text(b" ")
     };
@@ -209,18 +210,19 @@ fn add_numbered_note<W: Sink>(
     buffer: &mut TextBuffer,
     picture: Picture<'_>,
     inputs: bool,
+    gap: &[u8],
     many: usize,
     number: usize,
     writer: &mut W,
 ) -> Result<(), WriteFault>
     requires { many ≡ noted_before inputs picture.program.now.decls.vars number }
-    ensures { Sends (W.log writer.old) (W.log writer.new) buffer.old buffer.new result (numbered_note inputs picture.entry.program.now.decls picture.entry.after.now number) }
+    ensures { Sends (W.log writer.old) (W.log writer.new) buffer.old buffer.new result (numbered_note gap.now inputs picture.entry.program.now.decls picture.entry.after.now number) }
 {
     match picture.program.decls().vars().get(number) {
         Some(var) => {
             if is_among(inputs, var) {
                 let value = picture.after.value_or_off(number);
-                add_value(buffer, many, var.title.bytes(), value, writer)
+                add_value(buffer, gap, many, var.title.bytes(), value, writer)
             } else {
                 buffer.add(b"", writer)
             }
@@ -249,71 +251,67 @@ fn add_var_notes<W: Sink>(
     buffer: &mut TextBuffer,
     picture: Picture<'_>,
     inputs: bool,
+    gap: &[u8],
     writer: &mut W,
 ) -> Result<(), WriteFault>
-    ensures { Sends (W.log writer.old) (W.log writer.new) buffer.old buffer.new result (var_notes inputs picture.entry.program.now.decls picture.entry.after.now) }
+    ensures { Sends (W.log writer.old) (W.log writer.new) buffer.old buffer.new result (var_notes gap.now inputs picture.entry.program.now.decls picture.entry.after.now) }
 {
     let vars = picture.program.decls().vars();
     let mut many = 0;
     for number in 0..vars.len() {
-        add_numbered_note(buffer, picture, inputs, many, number, writer)?;
+        add_numbered_note(buffer, picture, inputs, gap, many, number, writer)?;
         many = noted_with(inputs, vars, number, many);
     }
     Ok(())
 }
 
-/// Adds the begin of the comment over a drawing: the moment of its scan, in ms.
+/// Adds what is first above a drawing: `begin`, and the moment of its scan, in ms.
 fn add_moment<W: Sink>(
     buffer: &mut TextBuffer,
+    begin: &[u8],
     after: &State,
     writer: &mut W,
 ) -> Result<(), WriteFault>
-    ensures { Sends (W.log writer.old) (W.log writer.new) buffer.old buffer.new result (moment_text after.now) }
+    ensures { Sends (W.log writer.old) (W.log writer.new) buffer.old buffer.new result (moment_text begin.now after.now) }
 {
     let pieces = [
-        Piece::Text(b"(* at "),
+        Piece::Text(begin),
         Piece::Number(after.moment()),
         Piece::Text(b" ms:"),
     ];
     add_pieces(buffer, pieces.as_slice(), writer)
 }
 
-/// Adds what is written above the drawing: the moment, the inputs with their values, and `meaning`, which explains the marks.
+/// Adds what is written above the drawing: the moment behind `begin`, the inputs with their values, with `gap` after every eighth
+/// one, and `meaning`, which explains the marks.
 pub(crate) fn add_above<W: Sink>(
     buffer: &mut TextBuffer,
     picture: Picture<'_>,
+    begin: &[u8],
+    gap: &[u8],
     meaning: &[u8],
     writer: &mut W,
 ) -> Result<(), WriteFault>
-    ensures { Sends (W.log writer.old) (W.log writer.new) buffer.old buffer.new result (above picture.entry.program.now picture.entry.after.now meaning.now) }
+    ensures { Sends (W.log writer.old) (W.log writer.new) buffer.old buffer.new result (above begin.now gap.now picture.entry.program.now picture.entry.after.now meaning.now) }
 {
-    add_moment(buffer, picture.after, writer)?;
-    add_var_notes(buffer, picture, true, writer)?;
+    add_moment(buffer, begin, picture.after, writer)?;
+    add_var_notes(buffer, picture, true, gap, writer)?;
     buffer.add(meaning, writer)
 }
 
-/// Adds what is written below the drawing: the values of all other variables after the scan.
-pub(crate) fn add_tail<W: Sink>(
+/// Adds what is written below the drawing: `begin`, the values of all other variables after the scan, with `gap` after every eighth
+/// one, and `end`.
+pub(crate) fn add_below<W: Sink>(
     buffer: &mut TextBuffer,
     picture: Picture<'_>,
-    writer: &mut W,
-) -> Result<(), WriteFault>
-    ensures { Sends (W.log writer.old) (W.log writer.new) buffer.old buffer.new result (tail_line picture.entry.program.now picture.entry.after.now) }
-{
-    buffer.add(b"\n(* after it:", writer)?;
-    add_var_notes(buffer, picture, false, writer)?;
-    buffer.add(b" *)\n", writer)
-}
-
-/// Adds what is written below the drawing, and then `end`.
-pub(crate) fn add_tail_with<W: Sink>(
-    buffer: &mut TextBuffer,
-    picture: Picture<'_>,
+    begin: &[u8],
+    gap: &[u8],
     end: &[u8],
     writer: &mut W,
 ) -> Result<(), WriteFault>
-    ensures { Sends (W.log writer.old) (W.log writer.new) buffer.old buffer.new result (tail_line picture.entry.program.now picture.entry.after.now ++ end.now) }
+    ensures { Sends (W.log writer.old) (W.log writer.new) buffer.old buffer.new result (below begin.now gap.now picture.entry.program.now picture.entry.after.now end.now) }
 {
-    add_tail(buffer, picture, writer)?;
+    buffer.add(begin, writer)?;
+    add_var_notes(buffer, picture, false, gap, writer)?;
     buffer.add(end, writer)
 }

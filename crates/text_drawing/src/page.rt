@@ -4,14 +4,14 @@ ghost use Rattle.std.specs.Prelude.{◌≡◌, ◌<◌, ◌^◌, length, positio
 ghost use Rattle.diagram_program.specs.declared.geometry.TheConstants.{RUNGS};
 ghost use Rattle.diagram_program.specs.Bytes.{space};
 ghost use Rattle.io_text.specs.Buffer.{Sends};
-ghost use Rattle.text_drawing.specs.Page.{button, drawn_in, drawn_line, drawn_place, drawn_whole, escaped, escaped_line, frame_head, frames_start, page_begun, page_head, page_start, turn};
+ghost use Rattle.text_drawing.specs.Page.{button, drawn_in, drawn_line, drawn_place, drawn_whole, escaped, escaped_line, frame_head, frames_start, page_above, page_begun, page_below, page_head, page_start, turn};
 ghost use Rattle.text_drawing.specs.Pictures.{Fits, lines_of, looks_of};
 ghost use Rattle.text_power.specs.Show.{each};
 ghost use Rattle.text_drawing.specs.Marked.{is_line_of};
 
 use crate::look::{Look, RungLine, look_at, look_before, tags_of};
 use crate::marked::rung_of;
-use crate::notes::add_above;
+use crate::notes::{add_above, add_below};
 use crate::picture::Picture;
 use io_text::{Piece, Sink, TextBuffer, WriteFault, add_pieces};
 use scan_cycle::State;
@@ -24,7 +24,8 @@ const PAGE_OPENING: &[u8] = b"<!DOCTYPE html>
 <title>Ladder ";
 
 /// The end of its title, and its style. Lines are drawn over the characters, so that those can be copied. A wire reaches into the middle
-/// of the characters beside it, and a vertical link into those above and below.
+/// of the characters beside it, and a vertical link into those above and below. On paper the whole width of a drawing fits, upright or
+/// across.
 const PAGE_STYLE: &[u8] = b"</title>
 <style>
 :root{color-scheme:light dark;--back:#fff;--text:#1b1f24;--on:#0a6b2d;--tint:#d8f5e2;--off:#6b737c}
@@ -40,27 +41,32 @@ b{--c:var(--on);--t:3px}
 .r{--c:var(--text);padding:.2em 0;background-size:2px 100%}
 .j{background-image:radial-gradient(circle,var(--c) calc(1.5px + var(--t)/2),transparent calc(2px + var(--t)/2))}
 .s{position:relative;color:var(--on);background:var(--tint);font-weight:bold}
-@page{size:landscape;margin:1cm}
-@media print{body{margin:0}pre{font-size:10pt;overflow:visible}}
+@page{margin:1cm}
+@media print{body{margin:0}pre{font-size:min(10pt,1.35vw);white-space:pre-wrap;overflow:visible;orphans:9;widows:9}}
 ";
 
-/// The rest of the style of a page of many pictures. The buttons are in a row above the picture that is chosen, or the first one while
-/// none is; on paper all pictures stand one after the other.
+/// The rest of the style of a page of many pictures. The buttons are in rows above the picture that is chosen, or the first one while
+/// none is. On paper all pictures stand one after the other, none cut in two that fits on a sheet; so they do in a browser that can't ask
+/// which one is chosen.
 const FRAMES_STYLE: &[u8] = b"body{display:flex;flex-wrap:wrap;align-items:center}
-input{order:0;margin:0 .1em .8em;accent-color:var(--on)}
-pre{order:1;flex-basis:100%;display:none}
-input:checked+pre,body:not(:has(:checked))>pre:first-of-type{display:block}
-@media print{body{display:block}input{display:none}pre{display:block;break-after:page}}
+label{order:0;margin:0 .5em .5em 0;padding:.1em .6em;border:1px solid var(--off);border-radius:.3em;font:.9em/1.5 system-ui,sans-serif;cursor:pointer}
+label:has(:checked),body:not(:has(:checked))>label:first-of-type{color:var(--on);background:var(--tint);border-color:var(--on);box-shadow:0 0 0 1px var(--on)}
+label:has(:focus-visible){outline:2px solid var(--on);outline-offset:3px}
+input{position:absolute;margin:0;opacity:0}
+pre{order:1;flex-basis:100%;display:none;margin-top:.5em}
+label:has(:checked)+pre,body:not(:has(:checked))>pre:first-of-type{display:block}
+@supports not selector(:has(a)){body,pre{display:block}}
+@media print{body{display:block}label{display:none}pre{display:block;break-inside:avoid;margin:0 0 1em;padding-top:.5em;border-top:1px solid var(--off)}}
 </style>
 ";
 
-/// What begins the button of a picture, up to its title.
-const BUTTON_START: &[u8] = b"<input type=radio name=record title=\"";
+/// What begins the button of a picture, up to its words.
+const BUTTON_START: &[u8] = b"<label><input type=radio name=record>";
 
 /// What the looks mean, after the end of the line above it.
-const PAGE_LEGEND: &[u8] = b" *)
-(* <b class=w>----</b> has power  <i class=w>----</i> has none  <i class=p>----</i> was passed over *)
-(* <b class=s>| |</b> is closed, or Q is ON  <b class=s>( )</b> is ON after its rung *)
+const PAGE_LEGEND: &[u8] = b"
+<b class=w>----</b> has power  <i class=w>----</i> has none  <i class=p>----</i> was passed over
+<b class=s>| |</b> is closed, or Q is ON  <b class=s>( )</b> is ON after its rung
 ";
 
 /// The character of a line at a column.
@@ -241,6 +247,30 @@ pub(crate) fn add_frames_start<W: Sink>(
     add_page_begun(buffer, b"film", FRAMES_STYLE, writer)
 }
 
+/// Adds what is written above the lines of a picture: the moment and the inputs, and what the looks mean.
+#[tactic(auto, unfolding(crate::specs::Page::page_legend))]
+fn add_page_above<W: Sink>(
+    buffer: &mut TextBuffer,
+    picture: Picture<'_>,
+    writer: &mut W,
+) -> Result<(), WriteFault>
+    ensures { Sends (W.log writer.old) (W.log writer.new) buffer.old buffer.new result (page_above picture.entry.program.now picture.entry.after.now) }
+{
+    add_above(buffer, picture, b"At ", b"\n    ", PAGE_LEGEND, writer)
+}
+
+/// Adds what is written below the lines of a picture: the values of the other variables, and `end`.
+pub(crate) fn add_page_below<W: Sink>(
+    buffer: &mut TextBuffer,
+    picture: Picture<'_>,
+    end: &[u8],
+    writer: &mut W,
+) -> Result<(), WriteFault>
+    ensures { Sends (W.log writer.old) (W.log writer.new) buffer.old buffer.new result (page_below picture.entry.program.now picture.entry.after.now end.now) }
+{
+    add_below(buffer, picture, b"\nAfter it:", b"\n    ", end, writer)
+}
+
 /// Adds what is written above the lines of a page with one picture.
 pub(crate) fn add_page_head<W: Sink>(
     buffer: &mut TextBuffer,
@@ -250,11 +280,10 @@ pub(crate) fn add_page_head<W: Sink>(
     ensures { Sends (W.log writer.old) (W.log writer.new) buffer.old buffer.new result (page_head picture.entry.program.now picture.entry.after.now) }
 {
     add_page_start(buffer, writer)?;
-    add_above(buffer, picture, PAGE_LEGEND, writer)
+    add_page_above(buffer, picture, writer)
 }
 
 /// Adds the button by which a picture of a film is chosen: the moment of its scan, in ms.
-#[tactic(auto, unfolding(crate::specs::Page::button_start))]
 fn add_button<W: Sink>(
     buffer: &mut TextBuffer,
     after: &State,
@@ -265,7 +294,7 @@ fn add_button<W: Sink>(
     let pieces = [
         Piece::Text(BUTTON_START),
         Piece::Number(after.moment()),
-        Piece::Text(b" ms\">\n<pre>\n"),
+        Piece::Text(b" ms</label>\n<pre>\n"),
     ];
     add_pieces(buffer, pieces.as_slice(), writer)
 }
@@ -279,5 +308,5 @@ pub(crate) fn add_frame_head<W: Sink>(
     ensures { Sends (W.log writer.old) (W.log writer.new) buffer.old buffer.new result (frame_head picture.entry.program.now picture.entry.after.now) }
 {
     add_button(buffer, picture.after, writer)?;
-    add_above(buffer, picture, PAGE_LEGEND, writer)
+    add_page_above(buffer, picture, writer)
 }

@@ -6,11 +6,13 @@ ghost use Rattle.io_text.specs.Log.{Puts};
 ghost use Rattle.text_drawing.specs.Marked.{is_line_of};
 ghost use Rattle.text_drawing.specs.Pictures.{Fits, lines_drawn, of_picture};
 ghost use Rattle.text_drawing.specs.Showing.{end_of, film_start, head_of, tail_of, whole_of, why_of, why_on};
-ghost use Rattle.text_drawing.specs.Notes.{kept_line, noted_line, noted_lines, notes_behind};
+ghost use Rattle.text_drawing.specs.Notes.{head_line, kept_line, noted_line, noted_lines, notes_behind, tail_line};
 
 use crate::marked::{add_whole_line, rung_of};
-use crate::notes::{add_above, add_rung_notes, add_tail, add_tail_with};
-use crate::page::{add_drawn_line, add_frame_head, add_frames_start, add_page_head};
+use crate::notes::{add_above, add_below, add_rung_notes};
+use crate::page::{
+    add_drawn_line, add_frame_head, add_frames_start, add_page_below, add_page_head,
+};
 use crate::picture::{Picture, Style};
 use io_text::{Sink, TextBuffer, WriteFault};
 use text_power::add_why;
@@ -104,6 +106,36 @@ fn add_noted_lines<W: Sink>(
     Ok(())
 }
 
+/// Adds what is written above the lines of a text.
+fn add_text_head<W: Sink>(
+    buffer: &mut TextBuffer,
+    picture: Picture<'_>,
+    writer: &mut W,
+) -> Result<(), WriteFault>
+    ensures { Sends (W.log writer.old) (W.log writer.new) buffer.old buffer.new result (head_line picture.entry.program.now picture.entry.after.now) }
+{
+    add_above(
+        buffer,
+        picture,
+        b"(* at ",
+        b" *)\n(* ",
+        b" *)\n(* === live  [ ] closed, or Q is ON  { } ON after its rung  ... passed over *)\n",
+        writer,
+    )
+}
+
+/// Adds what is written below the lines of a text, up to `end`.
+fn add_text_tail<W: Sink>(
+    buffer: &mut TextBuffer,
+    picture: Picture<'_>,
+    end: &[u8],
+    writer: &mut W,
+) -> Result<(), WriteFault>
+    ensures { Sends (W.log writer.old) (W.log writer.new) buffer.old buffer.new result (tail_line picture.entry.program.now picture.entry.after.now end.now) }
+{
+    add_below(buffer, picture, b"\n(* after it:", b" *)\n(* ", end, writer)
+}
+
 /// Adds what is written above the lines, by the style of the drawing.
 fn add_head<W: Sink>(
     buffer: &mut TextBuffer,
@@ -113,12 +145,7 @@ fn add_head<W: Sink>(
     ensures { Sends (W.log writer.old) (W.log writer.new) buffer.old buffer.new result (head_of picture.entry.style picture.entry.program.now picture.entry.after.now) }
 {
     match picture.style {
-        Style::Marked | Style::MarkedFrame => add_above(
-            buffer,
-            picture,
-            b" *)\n(* === live  [ ] closed, or Q is ON  { } ON after its rung  ... passed over *)\n",
-            writer,
-        ),
+        Style::Marked | Style::MarkedFrame => add_text_head(buffer, picture, writer),
         Style::Page => add_page_head(buffer, picture, writer),
         Style::PageFrame => add_frame_head(buffer, picture, writer),
     }
@@ -160,10 +187,10 @@ fn add_tail_of<W: Sink>(
     ensures { Sends (W.log writer.old) (W.log writer.new) buffer.old buffer.new result (tail_of picture.entry.style picture.entry.program.now picture.entry.after.now) }
 {
     match picture.style {
-        Style::Marked => add_tail(buffer, picture, writer),
-        Style::MarkedFrame => add_tail_with(buffer, picture, b"\n", writer),
-        Style::Page => add_tail_with(buffer, picture, b"</pre>\n</html>\n", writer),
-        Style::PageFrame => add_tail_with(buffer, picture, b"</pre>\n", writer),
+        Style::Marked => add_text_tail(buffer, picture, b" *)\n", writer),
+        Style::MarkedFrame => add_text_tail(buffer, picture, b" *)\n\n", writer),
+        Style::Page => add_page_below(buffer, picture, b"\n</pre>\n</html>\n", writer),
+        Style::PageFrame => add_page_below(buffer, picture, b"\n</pre>\n", writer),
     }
 }
 

@@ -2,13 +2,14 @@
 use Rattle.std.proofs.Common.{◌≡◌, ◌∙◌, ◌++◌, ◌∷◌, [], ℕ, List, ap, ap₂, append_assoc, append-nil, codes, length, refl}
 use Rattle.std.specs.List.{flat_map, range_with_len}
 use Rattle.diagram_declarations.specs.Decls.{names_of}
+use Rattle.text_cross_reference.specs.Uses.{symbols_of}
 use Rattle.io_text.specs.Left.{Fields}
 use Rattle.io_text.specs.Text.{line_text, lines_text}
 use Rattle.io_text.proofs.Commas.{lines_text-append}
 use Rattle.diagram_program.specs.Program.{Drawing}
 use Rattle.text_warnings.specs.Decided.{decided}
 use Rattle.text_warnings.specs.Told.{Told}
-use Rattle.text_warnings.specs.Warnings.{all_warnings, name_at_number, name_rows, place_rows, row_if, row_if_warned, row_of_names, rows_at, rows_of_name, similar_row, warning_rows}
+use Rattle.text_warnings.specs.Warnings.{all_warnings, declared_rows, name_at_number, name_rows, place_rows, row_if, row_if_unused, row_if_warned, row_of_names, rows_at, rows_of_name, similar_row, unused_rows, warning_rows}
 
 similar_line : (name earlier : List ℕ) → line_text (similar_row name earlier) ≡ codes "warning,similar_names,,,," ++ (name ++ (codes " " ++ (earlier ++ codes "\n")))
 similar_line name earlier =
@@ -19,10 +20,14 @@ pub similar_lines : (name earlier : List ℕ)
     → lines_text (similar_row name earlier ∷ []) ≡ codes "warning,similar_names,,,," ++ (name ++ (codes " " ++ (earlier ++ codes "\n")))
 similar_lines name earlier = append-nil (line_text (similar_row name earlier)) ∙ similar_line name earlier
 
--- the text of all rows
-pub rows_text : (d : Drawing) → lines_text (warning_rows decided d) ≡ lines_text (name_rows decided d.decls) ++ lines_text (place_rows decided d)
+-- the text of the rows of declarations, and of all rows
+pub declared_text : (d : Drawing) → lines_text (declared_rows decided d) ≡ lines_text (name_rows decided d.decls) ++ lines_text (unused_rows decided d)
+unfolding declared_rows
+declared_text d = lines_text-append (name_rows decided d.decls) (unused_rows decided d)
+
+pub rows_text : (d : Drawing) → lines_text (warning_rows decided d) ≡ lines_text (declared_rows decided d) ++ lines_text (place_rows decided d)
 unfolding warning_rows
-rows_text d = lines_text-append (name_rows decided d.decls) (place_rows decided d)
+rows_text d = lines_text-append (declared_rows decided d) (place_rows decided d)
 
 -- ---- whatever tells what holds, the rows are the same
 
@@ -37,9 +42,10 @@ same_each f g h [] = refl
 same_each f g h (x ∷ xs) = ap₂ (λ a b. a ++ b) (h x) (same_each f g h xs)
 
 pub rows_told : (t u : Told) (d : Drawing) → warning_rows t d ≡ warning_rows u d
-unfolding warning_rows name_rows place_rows rows_of_name rows_at
+unfolding warning_rows declared_rows name_rows unused_rows place_rows rows_of_name rows_at
 rows_told t u d =
-    ap₂ (λ a b. a ++ b)
+    ap₂ (λ a b. a ++ b) (ap₂ (λ a b. a ++ b)
     (same_each (rows_of_name t d.decls) (rows_of_name u d.decls) (λ n. same_each (row_of_names t d.decls n) (row_of_names u d.decls n)
     (λ earlier. same_row (t.similar (name_at_number d.decls n) (name_at_number d.decls earlier)) (u.similar (name_at_number d.decls n) (name_at_number d.decls earlier)) _) (range_with_len 0 n)) (range_with_len 0 (length (names_of d.decls))))
+    (same_each (row_if_unused t d) (row_if_unused u d) (λ s. same_row (t.unused d s) (u.unused d s) _) (symbols_of d.decls)))
     (same_each (rows_at t d) (rows_at u d) (λ n. same_each (row_if_warned t d n) (row_if_warned u d n) (λ w. same_row (t.warned d n w) (u.warned d n w) _) all_warnings) (range_with_len 0 (length d.sites)))

@@ -18,7 +18,7 @@ use Rattle.diagram_program.specs.Program.{Drawing, block_in, cell_in, coil_in, h
 use Rattle.text_warnings.specs.declared.warning.Warning.{Warning}
 use Rattle.text_warnings.specs.declared.warning.Warning.TheVariants as warning
 use Rattle.text_warnings.specs.Similar.{AddsFirst, AreSimilar, DifferAt, ReplacesFirst}
-use Rattle.text_warnings.specs.Warned.{Clashes, HasCellAt, HasCellBefore, HasCells, IsApart, IsCoilAnd, IsJoinedAt, IsLatch, IsLooseCrossing, IsNeverRead, IsNeverWritten, IsOfKind, IsUnwritten, IsWarned, IsWrittenTwice, Reads, operand_of}
+use Rattle.text_warnings.specs.Warned.{Clashes, Draws, HasCellAt, HasCellBefore, HasCells, IsApart, IsCoilAnd, IsJoinedAt, IsLatch, IsLooseCrossing, IsNeverRead, IsNeverWritten, IsOfKind, IsUnused, IsUnwritten, IsWarned, IsWrittenTwice, Reads, drawn_symbol, operand_of}
 use Rattle.text_warnings.specs.Routes.{HasRoute, IsRoute, LeadsNowhere, LeadsThrough}
 use Rattle.text_warnings.specs.Ways.{Follows, IsNeverReached, IsReached, IsWay, IsWired, IsWiredBy}
 use Rattle.text_warnings.specs.Below.{SomeBelow}
@@ -202,7 +202,12 @@ similar_or_not a b =
     three (either (is_below 3 (length a)) (is_below 3 (length b))) (is_off _)
     (some_below (DifferAt a b) (min (length a) (length b) + 1) (λ n l. differ_at a b n))
 
--- ---- both
+-- ---- declarations
+
+pub unused_or_not : (d : Drawing) (s : Symbol) → Dec (IsUnused d s)
+unused_or_not d s = neither (cell_before d (Draws s) (λ c. reads (drawn_symbol c) s) (length d.sites))
+
+-- ---- all of them
 
 pub decided : Told
-decided = record { warned = warned_or_not; similar = similar_or_not }
+decided = record { warned = warned_or_not; similar = similar_or_not; unused = unused_or_not }

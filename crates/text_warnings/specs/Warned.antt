@@ -64,6 +64,16 @@ operand_of other = None
 abbrev pub Reads : Symbol → Cell → Type 0
 Reads s c = operand_of c ≡ Some s
 
+-- what is drawn at a cell: what a contact reads, what a coil writes, or the instance of a block
+abbrev pub drawn_symbol : Cell → Option Symbol
+drawn_symbol (cell.Coil mode var memory) = Some (symbol.Var var)
+drawn_symbol (cell.Block inst) = Some (symbol.Instance inst)
+drawn_symbol other = operand_of other
+
+-- the cell is a contact or a coil on the variable, a contact on the output of the instance, or its block
+abbrev pub Draws : Symbol → Cell → Type 0
+Draws s c = drawn_symbol c ≡ Some s
+
 -- the cell is a coil, for whose mode and variable it holds
 abbrev pub IsCoilAnd : Cell → (CoilMode → ℕ → Type 0) → Type 0
 IsCoilAnd c Holds = IsSomeAnd (coil_in c) (λ coil. Holds coil.0 coil.1)
@@ -107,6 +117,13 @@ IsNeverWritten d n = IsSomeAnd (operand_of (cell_in d n)) (λ s. IsUnwritten d s
 abbrev pub IsNeverRead : Drawing → ℕ → Type 0
 IsNeverRead d n = IsCoilAnd (cell_in d n) (λ mode var.
     IsOfKind kind.Memory d.decls var × (HasCell d (Reads (symbol.Var var)) → ⊥) × (HasCellBefore d (λ c. is_coil_of var c ≡ true) n → ⊥))
+
+-- ---- declarations
+
+-- Nothing is drawn of what is declared: an input that no rung reads, another variable that is neither read nor written, an instance without
+-- a block whose output no contact reads.
+abbrev pub IsUnused : Drawing → Symbol → Type 0
+IsUnused d s = HasCell d (Draws s) → ⊥
 
 -- ---- places
 

@@ -13,6 +13,7 @@ use Rattle.diagram_program.specs.Program.{Drawing, cell_in}
 use Rattle.io_text.specs.Left.{Fields}
 use Rattle.text_warnings.specs.declared.warning.Warning.{Warning}
 use Rattle.text_warnings.specs.declared.warning.Warning.TheVariants.{LooseCrossing, Apart, LeadsNowhere, WrittenTwice, NeverWritten, NeverRead, NeverReached}
+use Rattle.text_cross_reference.specs.Uses.{symbols_of}
 use Rattle.text_warnings.specs.Warned.{operand_of}
 use Rattle.text_warnings.specs.Told.{Told}
 
@@ -92,6 +93,26 @@ rows_of_name told declared n = flat_map (row_of_names told declared n) (range_wi
 unfoldable pub name_rows : Told → Declared → List Fields
 name_rows told declared = flat_map (rows_of_name told declared) (range_with_len 0 (length (names_of declared)))
 
--- All rows: those of names, and then those of places.
+-- ---- what is declared, and nothing is drawn of it
+
+-- The row of a name that is declared alone. It is about its declaration, and has 0 for rung, row and column, as its row in the
+-- cross-reference has.
+abbrev pub unused_row : List ℕ → Fields
+unused_row name = codes "warning" ∷ codes "unused" ∷ codes "0" ∷ codes "0" ∷ codes "0" ∷ name ∷ []
+
+abbrev pub row_if_unused : Told → Drawing → Symbol → List Fields
+row_if_unused told d s = row_if (told.unused d s) (unused_row (symbol_name d.decls s))
+
+-- A row for each variable, and then each instance, that nothing is drawn of.
+unfoldable pub unused_rows : Told → Drawing → List Fields
+unused_rows told d = flat_map (row_if_unused told d) (symbols_of d.decls)
+
+-- ---- all rows
+
+-- those of declarations
+unfoldable pub declared_rows : Told → Drawing → List Fields
+declared_rows told d = name_rows told d.decls ++ unused_rows told d
+
+-- All rows: those of declarations, and then those of places.
 unfoldable pub warning_rows : Told → Drawing → List Fields
-warning_rows told d = name_rows told d.decls ++ place_rows told d
+warning_rows told d = declared_rows told d ++ place_rows told d

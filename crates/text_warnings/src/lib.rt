@@ -8,6 +8,7 @@ mod places;
 mod reaching;
 mod similar;
 mod symbols;
+mod unused;
 mod warning;
 mod wired;
 mod write;

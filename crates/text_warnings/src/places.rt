@@ -3,12 +3,12 @@
 ghost use Rattle.std.specs.Prelude.{◌≡◌, ◌*◌, ◌<◌, ◌≤◌, ◌↔◌, IsTrue, Some, true};
 ghost use Rattle.diagram_program.specs.declared.geometry.TheConstants.{PLACES};
 ghost use Rattle.diagram_program.specs.Program.{block_in, cell_in, is_coil_of};
-ghost use Rattle.text_warnings.specs.Warned.{Clashes, HasCell, HasCellBefore, IsLooseCrossing, IsNeverRead, IsNeverWritten, IsUnwritten, IsWarned, IsWrittenTwice, Reads};
+ghost use Rattle.text_warnings.specs.Warned.{Clashes, Draws, HasCell, HasCellBefore, IsLooseCrossing, IsNeverRead, IsNeverWritten, IsUnused, IsUnwritten, IsWarned, IsWrittenTwice, Reads};
 
 use crate::apart::is_apart;
 use crate::leading::leads_nowhere;
 use crate::reaching::is_never_reached;
-use crate::symbols::{clashes, draws, is_of_kind, operand_of, reads};
+use crate::symbols::{clashes, draws, draws_any_of, is_of_kind, operand_of, reads};
 use crate::warning::Warning;
 use diagram_declarations::{Symbol, VarKind};
 use diagram_program::geometry::{PLACES, Place, ROWS};
@@ -84,6 +84,25 @@ fn is_drawn(program: &Program, inst: usize) -> bool
         }
     }
     false
+}
+
+/// Whether something of the variable or the instance is drawn.
+fn is_used(program: &Program, symbol: Symbol) -> bool
+    ensures { IsTrue result ↔ HasCell program.now (Draws symbol) }
+{
+    for place in 0..PLACES * program.rungs() {
+        if draws_any_of(symbol, cell_in(program, place)) {
+            return true;
+        }
+    }
+    false
+}
+
+/// Whether nothing of the variable or the instance is drawn.
+pub(crate) fn is_unused(program: &Program, symbol: Symbol) -> bool
+    ensures { IsTrue result ↔ IsUnused program.now symbol }
+{
+    !is_used(program, symbol)
 }
 
 /// Whether a contact reads the variable or the instance.

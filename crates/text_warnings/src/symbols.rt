@@ -2,7 +2,7 @@
 
 ghost use Rattle.std.specs.Prelude.{◌≡◌, ◌↔◌, IsTrue, Some};
 ghost use Rattle.diagram_program.specs.Program.{block_in};
-ghost use Rattle.text_warnings.specs.Warned.{Clashes, IsLatch, IsOfKind, Reads, operand_of};
+ghost use Rattle.text_warnings.specs.Warned.{Clashes, Draws, IsLatch, IsOfKind, Reads, drawn_symbol, operand_of};
 ghost use Rattle.text_warnings.specs.Warnings.{symbol_of};
 
 use diagram_declarations::{Decls, Symbol, VarKind};
@@ -26,6 +26,31 @@ pub(crate) fn symbol_of(cell: Cell) -> Option<Symbol>
     match cell.coil() {
         Some((_, var)) => Some(Symbol::Var(var)),
         None => operand_of(cell),
+    }
+}
+
+/// The variable or the instance that is drawn at a cell, by a contact, a coil or a block.
+fn drawn_symbol(cell: Cell) -> Option<Symbol>
+    ensures { result ≡ drawn_symbol cell }
+{
+    match cell {
+        Cell::Contact { operand, .. } => match operand {
+            Operand::Var(var) => Some(Symbol::Var(var)),
+            Operand::Output(inst) => Some(Symbol::Instance(inst)),
+        },
+        Cell::Coil { var, .. } => Some(Symbol::Var(var)),
+        Cell::Block { inst } => Some(Symbol::Instance(inst)),
+        Cell::Empty | Cell::Wire | Cell::Lower { .. } | Cell::Jump { .. } | Cell::Return => None,
+    }
+}
+
+/// Whether something of the variable or the instance is drawn at the cell.
+pub(crate) fn draws_any_of(symbol: Symbol, cell: Cell) -> bool
+    ensures { IsTrue result ↔ Draws symbol cell }
+{
+    match drawn_symbol(cell) {
+        Some(other) => other == symbol,
+        None => false,
     }
 }
 

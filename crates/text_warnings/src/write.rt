@@ -7,11 +7,12 @@ ghost use Rattle.io_text.specs.Buffer.{Sends};
 ghost use Rattle.io_text.specs.Log.{Puts};
 ghost use Rattle.text_warnings.specs.Decided.{decided};
 ghost use Rattle.text_warnings.specs.Told.{Told};
-ghost use Rattle.text_warnings.specs.Warnings.{place_rows, row_if_warned, rows_at, warned_name, warning_row, warning_rows};
+ghost use Rattle.text_warnings.specs.Warnings.{declared_rows, place_rows, row_if_warned, rows_at, warned_name, warning_row, warning_rows};
 
 use crate::names::add_names;
 use crate::places::{cell_in, is_warned};
 use crate::symbols::symbol_of;
+use crate::unused::add_unused;
 use crate::warning::Warning;
 use diagram_program::Program;
 use diagram_program::geometry::{PLACES, ROWS};
@@ -130,8 +131,23 @@ fn add_places<W: Sink>(
     Ok(rows)
 }
 
-/// Writes a row for each warning of a program, first of its names and then by rung, column and row, and returns how many. There is no header, and so nothing is
-/// written where nothing is warned of. It needs no memory.
+/// Adds the rows of declarations, of names that are similar and then of those that nothing is drawn of, and returns how many.
+fn add_declared<W: Sink>(
+    buffer: &mut TextBuffer,
+    program: &Program,
+    writer: &mut W,
+) -> Result<u64, WriteFault>
+    ensures sends { Sends (W.log writer.old) (W.log writer.new) buffer.old buffer.new result (lines_text (declared_rows decided program.now)) }
+    ensures count { IfOk result (λ n. n ≡ length (declared_rows decided program.now)) }
+    ensures few { IfOk result (λ n. n ≤ 320 * 321) }
+{
+    let similar = add_names(buffer, program.decls(), writer)?;
+    let unused = add_unused(buffer, program, writer)?;
+    Ok(similar + unused)
+}
+
+/// Writes a row for each warning of a program, first of its declarations and then by rung, column and row, and returns how many. There
+/// is no header, and so nothing is written where nothing is warned of. It needs no memory.
 ///
 /// # Errors
 ///
@@ -141,8 +157,8 @@ pub fn write_warnings<W: Sink>(program: &Program, writer: &mut W) -> Result<u64,
     ensures rows { IfOk result (λ n. (told : Told) → n ≡ length (warning_rows told program.now)) }
 {
     let mut buffer = TextBuffer::new();
-    let names = add_names(&mut buffer, program.decls(), writer)?;
+    let declared = add_declared(&mut buffer, program, writer)?;
     let places = add_places(&mut buffer, program, writer)?;
     buffer.flush(writer)?;
-    Ok(names + places)
+    Ok(declared + places)
 }
