@@ -1,14 +1,17 @@
 //! What is said of a word of a request that names nothing, after the line of a fault.
 
+ghost use Rattle.std.specs.Prelude.{◌<◌};
+
 use crate::files::read_texts;
 use crate::opening::readers_of;
 use crate::unread::Opening;
 use cli_arguments::{CommandLine, Request};
 use cli_inputs::{Texts, read_given_program};
+use csv::ByteRecord;
 use diagram_declarations::{Decls, Name, Symbol};
-use io_text::{CountedWriter, Sink};
+use io_text::{CountedWriter, Sink, next, read_from};
 use std::alloc::Global;
-use text_names::{Wanted, write_unknown};
+use text_names::{Wanted, name_at, write_no_input, write_other, write_unknown};
 
 /// The name in a word: what stands before a point, as in T1.Q.
 fn named(word: &[u8]) -> &[u8] {
@@ -112,11 +115,90 @@ fn tell_request<W: Sink>(alloc: Global, decls: &Decls, request: &Request, writer
     }
 }
 
-/// Writes of the words of a request of these texts which names nothing.
+/// Writes what is wrong with a name in the header of a stimulus, if it is that of no input. Returns whether it is.
+fn tell_input<W: Sink>(alloc: Global, decls: &Decls, word: &[u8], writer: &mut W) -> bool {
+    let found = match Name::new(word) {
+        Some(name) => decls.find(&name),
+        None => None,
+    };
+    match found {
+        Some(Symbol::Var(number)) if decls.vars().get(number).is_some_and(|var| var.is_input()) => {
+            false
+        }
+        Some(_) => {
+            let _ = write_no_input(word, writer);
+            true
+        }
+        None => {
+            let _ = write_unknown(alloc, decls, Wanted::Input, word, writer);
+            true
+        }
+    }
+}
+
+/// Writes of the first name in the header of a stimulus that is that of no input what is wrong with it.
+fn tell_header<W: Sink>(alloc: Global, decls: &Decls, header: &ByteRecord, writer: &mut W) {
+    for number in 1..header.len() {
+        if let Some(word) = header.get(number) {
+            if tell_input(alloc, decls, word, writer) {
+                return;
+            }
+        }
+    }
+}
+
+/// The same of the text of a stimulus.
+fn tell_stimulus<W: Sink>(alloc: Global, decls: &Decls, text: &[u8], writer: &mut W) {
+    let mut records = read_from(alloc, text);
+    let mut header = ByteRecord::new(alloc);
+    if let Ok(true) = next(&mut records, &mut header) {
+        tell_header(alloc, decls, &header, writer);
+    }
+    drop(header);
+    drop(records);
+}
+
+/// Writes of the first record of a state that has another name than the program there what it has.
+fn tell_state<W: Sink>(alloc: Global, decls: &Decls, text: &[u8], writer: &mut W) {
+    let mut records = read_from(alloc, text);
+    let mut row = ByteRecord::new(alloc);
+    let mut number = 0usize;
+    // Two records come before the first name.
+    while let Ok(true) = next(&mut records, &mut row) {
+        number = number.saturating_add(1);
+        if number > 2 && tell_record(decls, number, &row, writer) {
+            break;
+        }
+    }
+    drop(row);
+    drop(records);
+}
+
+/// Writes that a record of a state has another name than the program there, if it has. Returns whether it has one.
+fn tell_record<W: Sink>(decls: &Decls, number: usize, row: &ByteRecord, writer: &mut W) -> bool
+    requires { 2 < number }
+{
+    let name = name_at(decls, number - 3);
+    match row.get(1) {
+        Some(found) if !name.is_empty() && found != name => {
+            let _ = write_other(number as u64, found, name, writer);
+            true
+        }
+        _ => false,
+    }
+}
+
+/// Writes of the words and texts of a request which names nothing that is wanted there.
 fn tell_texts(rt: &HostRuntime, alloc: Global, request: &Request, texts: &Texts) {
     if let Ok(program) = read_given_program(alloc, texts) {
         let mut err = CountedWriter::new(rt.stderr());
         tell_request(alloc, program.decls(), request, &mut err);
+        if let Some(state) = &texts.state {
+            tell_state(alloc, program.decls(), state, &mut err);
+        }
+        if let Some(stimulus) = &texts.stimulus {
+            tell_stimulus(alloc, program.decls(), stimulus, &mut err);
+        }
         drop(err);
         drop(program);
     }

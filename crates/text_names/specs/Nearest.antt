@@ -1,6 +1,6 @@
 -- The declared name that is nearest to a word: the one that the fewest letters make of it, put in, left out or replaced (Levenshtein), whatever
 -- their case.
-use Rattle.std.specs.Prelude.{◌++◌, ◌&&◌, ◌+◌, ◌/◌, ℕ, List, [], Bool, true, false, not, Option, None, Some, codes, if◌then◌else◌, length, map, nat_eq, nat_le, option_map, position, slice_get, slice_index_or}
+use Rattle.std.specs.Prelude.{◌++◌, ◌&&◌, ◌+◌, ◌/◌, ℕ, List, [], Bool, true, false, not, Option, None, Some, codes, decimal, if◌then◌else◌, length, map, nat_eq, nat_le, option_map, position, slice_get, slice_index_or}
 use Rattle.std.specs.Char.{to_ascii_lowercase}
 use Rattle.std.specs.List.{list_all, range_with_len}
 use Rattle.std.specs.Option.{option_or}
@@ -54,3 +54,12 @@ told_name decls number = option_map (name_at decls) number
 abbrev pub unknown_text : List ℕ → Option (List ℕ) → List ℕ
 unknown_text word None = codes "\"" ++ (word ++ codes "\" isn't declared\n")
 unknown_text word (Some name) = codes "\"" ++ (word ++ (codes "\" isn't declared; did you mean " ++ (name ++ codes "?\n")))
+
+-- `"Motor" is no input`
+abbrev pub no_input_text : List ℕ → List ℕ
+no_input_text word = codes "\"" ++ (word ++ codes "\" is no input\n")
+
+-- A record of a state is of another name than what the program has there.
+abbrev pub other_text : ℕ → List ℕ → List ℕ → List ℕ
+other_text number found name =
+    codes "the state is of another program: its record " ++ (decimal number ++ (codes " is of " ++ (found ++ (codes ", where this program has " ++ (name ++ codes "\n")))))

@@ -33,7 +33,7 @@ fn count_names(decls: &Decls) -> usize
 }
 
 /// The name with a number: variables come first, then instances; behind them there is none.
-pub(crate) fn name_at(decls: &Decls, number: usize) -> &[u8]
+pub fn name_at(decls: &Decls, number: usize) -> &[u8]
     ensures { result.now ≡ name_at decls.now number }
 {
     let (vars, instances) = (decls.vars(), decls.instances());
