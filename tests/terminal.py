@@ -20,7 +20,8 @@ END_VAR
 |    Start      Stop        Motor
 |----| |---------|/|---------( )----
 """
-FILES = {"motor.ld": MOTOR, "stimulus.csv": "moment,Start\n0,1\n", "long.ld": MOTOR.replace("Stop ", "LongButtonName")}
+FILES = {"motor.ld": MOTOR, "stimulus.csv": "moment,Start\n0,1\n", "foo.csv": "moment,Strat\n0,1\n", "coil.csv": "moment,Motor\n0,1\n",
+         "other.csv": "version,2\nmoment,0\nvar,Begin,0\nvar,Stop,0\nvar,Motor,0\ntimer,Run,0,0,0,0\n", "long.ld": MOTOR.replace("Stop ", "LongButtonName")}
 HELP = b"Usage: ladder <COMMAND>"
 
 # the words, the status, what a terminal shows, and whether that is all of it
@@ -32,6 +33,10 @@ CASES = [
     (["causes", "--why=never", "motor.ld", "Moter"], 1, "fault X3 word 1\n", None),
     (["reach", "motor.ld", "Rum.Q"], 1, "fault X3 word 1\n", "\"Rum\" isn't declared; did you mean Run?\n"),
     (["sim", "--watch", "Stob", "motor.ld", "stimulus.csv"], 1, "fault X3 watch 1\n", "\"Stob\" isn't declared; did you mean Stop?\n"),
+    (["sim", "motor.ld", "foo.csv"], 1, "fault X3 row 1\n", "\"Strat\" isn't declared; did you mean Start?\n"),
+    (["sim", "motor.ld", "coil.csv"], 1, "fault X3 row 1\n", "\"Motor\" is no input\n"),
+    (["sim", "--state", "other.csv", "motor.ld", "stimulus.csv"], 1, "fault X2 state row 3\n",
+     "the state is of another program: its record 3 is of Begin, where this program has Start\n"),
     (["check", "nofile.ld"], 1, "fault X1 program\n", "nofile.ld: no such file\n"),
     (["check", "."], 1, "fault X1 program\n", ".: it is a folder\n"),
     (["sim", "motor.ld", "none.csv"], 1, "fault X1 stimulus\n", "none.csv: no such file\n"),
