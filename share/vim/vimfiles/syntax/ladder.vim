@@ -58,7 +58,7 @@ highlight default link ladderDuration Number
 highlight default link ladderPreset Keyword
 highlight default link ladderLabel Label
 highlight default link ladderError Error
-highlight default link ladderWire NonText
+highlight default link ladderWire Delimiter
 highlight default link ladderLink Operator
 highlight default link ladderJoint Operator
 highlight default link ladderOperand Identifier
