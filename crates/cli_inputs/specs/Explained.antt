@@ -4,7 +4,7 @@ use Rattle.causes_query.specs.declared.fault.CauseFault.{CauseFault}
 use Rattle.causes_query.specs.declared.fault.CauseFault.TheVariants as cause
 use Rattle.diagram_reader.specs.declared.fault.GridFault.TheVariants.{Grid}
 use Rattle.diagram_reader.specs.Columns.{IsColumnOf}
-use Rattle.cli_inputs.specs.Reasons.{reason_text}
+use Rattle.text_reasons.specs.Reasons.{reason_text}
 use Rattle.search_differences.specs.declared.side.Side.{Side}
 use Rattle.text_state.specs.declared.fault.StateFault.TheVariants as state
 use Rattle.io_text.specs.declared.fault.ReadFault.TheVariants as read

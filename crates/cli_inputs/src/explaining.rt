@@ -6,9 +6,9 @@ ghost use Rattle.io_text.specs.Log.{Puts};
 ghost use Rattle.cli_inputs.specs.Explained.{explained, report_by, report_of, sentence};
 
 use crate::fault::{ToolFault, cause_rule, write_line};
-use crate::reason::write_reason;
 use io_text::{Piece, ReadFault, Sink, WriteFault, put_pieces};
 use search_differences::Side;
+use text_reasons::write_reason;
 use text_state::StateFault;
 use text_trace::SimFault;
 
