@@ -1,5 +1,5 @@
 -- Why a text is no program, for its author: the sentence of the rule that is broken, and the lines of the text where it shows.
-use Rattle.std.specs.Prelude.{◌++◌, ◌-◌, ◌+◌, ◌*◌, ◌≤◌, ◌==◌, ◌||◌, ℕ, zero, suc, List, [], Bool, true, false, nat_lt, codes, decimal, if◌then◌else◌, length, map, Option, Some, None, option_map, replicate, slice_get, take}
+use Rattle.std.specs.Prelude.{◌++◌, ◌-◌, ◌+◌, ◌*◌, ◌≤◌, ◌==◌, ◌||◌, ℕ, zero, suc, List, [], Bool, true, false, nat_le, nat_lt, codes, decimal, if◌then◌else◌, length, map, Option, Some, None, option_map, replicate, slice_get, take}
 use Rattle.std.specs.List.{slice_split}
 use Rattle.std.specs.Option.{option_map_or}
 use Rattle.diagram_reader.specs.declared.fault.GridFault.{GridFault}
@@ -10,6 +10,10 @@ use Rattle.diagram_reader.specs.declared.grid_rule.GridRule.TheVariants as rule
 use Rattle.diagram_program.specs.declared.geometry.TheConstants.{CELL, PITCH}
 use Rattle.text_reasons.specs.declared.quote.Marks.{Marks}
 use Rattle.text_reasons.specs.declared.quote.TheConstants.{DIGITS, WIDEST, WIDTH}
+use Rattle.diagram_declarations.specs.declared.fault.VarRule.{VarRule}
+use Rattle.diagram_declarations.specs.declared.fault.VarRule.TheVariants as var
+use Rattle.text_reasons.specs.Advice.{advice, start_of}
+use Rattle.text_reasons.specs.Bytes.{bad_in, place_in}
 use Rattle.text_reasons.specs.Sentences.{grid_sentence, var_sentence}
 
 -- A byte as it is quoted: what moves a terminal's cursor or changes its colours is a question mark.
@@ -62,8 +66,21 @@ marks_in rule.BadJoint column = record { indent = PITCH * column; count = 1 }
 marks_in rule.BrokenVertical column = record { indent = PITCH * column; count = 1 }
 marks_in other column = record { indent = PITCH * column + 1; count = CELL }
 
--- What is told of a fault: its sentence, and the lines where it shows, with marks under the column where it is known.
-abbrev pub reason_text : List ℕ → GridFault → Option ℕ → List ℕ
-reason_text text (Vars f) column = (var_sentence f.rule ++ codes "\n") ++ near text f.line []
-reason_text text (Grid r rung line) column =
+-- The mark under the byte that may stand in comments only, if it is within the width of a drawing.
+abbrev pub byte_marks : List ℕ → Option (List ℕ) → Option Marks
+byte_marks start None = None
+byte_marks start (Some at) = if nat_le (place_in start at) WIDEST then Some (record { indent = place_in start at; count = 1 }) else None
+
+abbrev pub var_marks : VarRule → List ℕ → ℕ → Option Marks
+var_marks var.BadByte text line = byte_marks (start_of text line).1 (bad_in (start_of text line))
+var_marks other text line = None
+
+-- The sentence of a fault, and the lines where it shows, with marks under the column where it is known.
+abbrev pub shown_text : List ℕ → GridFault → Option ℕ → List ℕ
+shown_text text (Vars f) column = (var_sentence f.rule ++ codes "\n") ++ near text f.line (marks_text (var_marks f.rule text f.line))
+shown_text text (Grid r rung line) column =
     (grid_sentence r ++ codes "\n") ++ (ruler ++ near text line (marks_text (option_map (marks_in r) column)))
+
+-- What is told of a fault: this, and what is to be changed.
+abbrev pub reason_text : List ℕ → GridFault → Option ℕ → List ℕ
+reason_text text f column = shown_text text f column ++ advice text f column

@@ -19,7 +19,7 @@ const DIGITS: usize = 5;
 const WIDTH: usize = 160;
 
 /// How many spaces there are in a row at most.
-const WIDEST: usize = RAIL + 1;
+pub(crate) const WIDEST: usize = RAIL + 1;
 
 const SPACES: &[u8; WIDEST] = &[b' '; WIDEST];
 
