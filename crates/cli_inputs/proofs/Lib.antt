@@ -1,3 +1,2 @@
 pub mod Ends
 pub mod UnknownWords
-mod Quoting

@@ -4,7 +4,7 @@ use Rattle.causes_query.specs.declared.fault.CauseFault.{CauseFault}
 use Rattle.causes_query.specs.declared.fault.CauseFault.TheVariants as cause
 use Rattle.diagram_reader.specs.declared.fault.GridFault.TheVariants.{Grid}
 use Rattle.diagram_reader.specs.Columns.{IsColumnOf}
-use Rattle.cli_inputs.specs.Reasons.{reason_text}
+use Rattle.text_reasons.specs.Reasons.{reason_text}
 use Rattle.search_differences.specs.declared.side.Side.{Side}
 use Rattle.text_state.specs.declared.fault.StateFault.TheVariants as state
 use Rattle.io_text.specs.declared.fault.ReadFault.TheVariants as read
@@ -40,7 +40,8 @@ sentence fault.Both = codes "X3: the name of --both is that of no variable and o
 sentence (fault.Sim (sim.BadRow row)) = codes "X2: the record isn't a moment with a 0 or 1 for each name of the header, which is record 1"
 sentence (fault.Sim (sim.UnknownName row)) = codes "X3: a name of the header isn't an input of this program"
 sentence (fault.Sim (sim.MomentBack row)) = codes "X4: the moment is before that of the record above it, or of the state; the header is record 1"
-sentence (fault.Sim (sim.TooLong row)) = codes "X5: there are too many records; the header is record 1"
+sentence (fault.Sim (sim.TooLong row)) =
+    codes "X5: too many records or scans up to this record, of which the header is record 1; parts after one another by --save and --state, or a longer --every, will do"
 sentence (fault.Sim sim.Write) = codes "X6: a write failed"
 sentence (fault.Sim sim.Memory) = codes "X7: out of memory"
 sentence fault.Write = codes "X6: a write failed"

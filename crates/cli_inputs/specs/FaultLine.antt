@@ -3,7 +3,7 @@ use Rattle.std.specs.Prelude.{◌++◌, ℕ, List, Option, None, Some, codes, de
 use Rattle.diagram_declarations.specs.declared.fault.VarRule.{VarRule}
 use Rattle.diagram_declarations.specs.declared.fault.VarRule.TheVariants as var
 use Rattle.diagram_reader.specs.declared.fault.GridFault.TheVariants as grid
-use Rattle.cli_inputs.specs.Sentences.{grid_number, var_number}
+use Rattle.text_reasons.specs.Sentences.{grid_number, var_number}
 use Rattle.causes_query.specs.declared.fault.CauseFault.{CauseFault}
 use Rattle.causes_query.specs.declared.fault.CauseFault.TheVariants as cause
 use Rattle.io_text.specs.declared.fault.ReadFault.TheVariants as read

@@ -3,6 +3,4 @@ pub mod Explained
 pub mod Variables
 pub mod Setting
 pub mod Reports
-pub mod Reasons
-pub mod Sentences
 pub mod Reading

@@ -6,9 +6,9 @@ ghost use Rattle.io_text.specs.Log.{Puts};
 ghost use Rattle.cli_inputs.specs.Explained.{explained, report_by, report_of, sentence};
 
 use crate::fault::{ToolFault, cause_rule, write_line};
-use crate::reason::write_reason;
 use io_text::{Piece, ReadFault, Sink, WriteFault, put_pieces};
 use search_differences::Side;
+use text_reasons::write_reason;
 use text_state::StateFault;
 use text_trace::SimFault;
 
@@ -42,8 +42,9 @@ fn sentence(fault: ToolFault) -> &'static [u8]
         ToolFault::Sim(SimFault::MomentBack { .. }) => {
             b"X4: the moment is before that of the record above it, or of the state; the header is record 1"
         }
-        ToolFault::Sim(SimFault::TooLong { .. }) =>
-            b"X5: there are too many records; the header is record 1",
+        ToolFault::Sim(SimFault::TooLong { .. }) => {
+            b"X5: too many records or scans up to this record, of which the header is record 1; parts after one another by --save and --state, or a longer --every, will do"
+        }
         ToolFault::Write | ToolFault::Sim(SimFault::Write) => b"X6: a write failed",
         ToolFault::Memory
         | ToolFault::Read(_, ReadFault::Memory)

@@ -7,12 +7,12 @@ ghost use Rattle.cli_inputs.specs.FaultLine.{cause_number, fault_line, fault_wor
 ghost use Rattle.cli_inputs.specs.Explained.{cause_sentence};
 ghost use Rattle.cli_inputs.specs.declared.fault.ToolFault.TheVariants.{Read, Sim, State};
 
-use crate::rule::{RuleText, grid_rule, rule_text, var_rule};
 use causes_query::CauseFault;
 use diagram_declarations::{TitleFault, VarFault, VarRule};
 use diagram_reader::GridFault;
 use io_text::{Piece, ReadFault, Sink, TextBuffer, WriteFault, add_pieces};
 use search_differences::Side;
+use text_reasons::{RuleText, grid_rule, rule_text, var_rule};
 use text_state::StateFault;
 use text_trace::SimFault;
 use thiserror::Error;

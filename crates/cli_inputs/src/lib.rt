@@ -3,11 +3,8 @@
 
 mod explaining;
 mod fault;
-mod quote;
 mod reading;
-mod reason;
 mod reporting;
-mod rule;
 mod setting;
 mod texts;
 mod variables;
@@ -15,9 +12,7 @@ mod variables;
 pub use explaining::write_report;
 pub use fault::{TextKind, ToolFault, write_fault};
 pub use reading::{STIMULUS_LIMIT, TEXT_LIMIT, read_named, read_one};
-pub use reason::write_reason;
 pub use reporting::{report, report_by, report_unread, report_unread_by};
-pub use rule::{RuleText, grid_rule, var_rule};
 pub use setting::{Setting, moment, read_given_program, read_setting, starting_state};
 pub use texts::Texts;
 pub use variables::{CauseVariables, ShownVariables, asked_variables, shown_variables};

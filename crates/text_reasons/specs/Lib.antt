@@ -1,0 +1,9 @@
+pub mod Sentences
+pub mod Outside
+pub mod Bytes
+pub mod Names
+pub mod Joints
+pub mod Blocks
+pub mod Forms
+pub mod Advice
+pub mod Reasons
