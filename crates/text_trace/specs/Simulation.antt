@@ -99,12 +99,21 @@ Follows recorded p s rows t old new (Err fault.Memory) = ((k : ℕ) × IsTaken r
 
 -- ---- with scans between the records
 
+-- With a time between two scans, so many ms, a simulation takes 10 ^ 10 records, those in between included.
+abbrev pub most_by : ℕ → ℕ → ℕ
+most_by zero most = most
+most_by (suc n) most = 10000000000
+
+abbrev pub with_scans : ℕ → Recorded → Recorded
+with_scans every recorded = record { most = most_by every recorded.most; head = recorded.head; Tells = recorded.Tells }
+
 -- The same with scans between the records, so many ms apart: it is the simulation of the stimulus that has records for these as well, and a
 -- fault tells the number of the record in the file. Without such a time there are none.
 abbrev pub FollowsEvery : Recorded → ℕ → Drawing → Standing → List Fields → Standing → WriteLog → WriteLog → Result ℕ SimFault → Type 0
 FollowsEvery recorded zero p s rows t old new end = Follows recorded p s rows t old new end
 FollowsEvery recorded (suc n) p s rows t old new end =
-    (r : Result ℕ SimFault) × Follows recorded p s (all_fields (filled (suc n) rows)) t old new r × (end ≡ told_of (filled (suc n) rows) r)
+    (r : Result ℕ SimFault) × Follows (with_scans (suc n) recorded) p s (all_fields (filled (suc n) rows)) t old new r
+    × (end ≡ told_of (filled (suc n) rows) r)
 
 -- ---- by what is recorded
 

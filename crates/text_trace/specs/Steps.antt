@@ -12,9 +12,10 @@ use Rattle.text_trace.specs.declared.fault.SimFault.TheVariants as fault
 use Rattle.text_trace.specs.declared.recording.Recording.{Recording}
 use Rattle.text_trace.specs.declared.recording.Recording.TheVariants as recordings
 use Rattle.text_trace.specs.declared.filling.Filling.{Filling}
+use Rattle.text_trace.specs.declared.simulation.Run.{Run}
 use Rattle.text_trace.specs.Coming.{Comes}
 use Rattle.text_trace.specs.Filled.{Numbered, all_fields, told_of}
-use Rattle.text_trace.specs.Simulation.{Follows, GoesBack, HasUnknownName, IsBadHeader, IsNoRow, IsUntouched, Runs, as_film, as_waves}
+use Rattle.text_trace.specs.Simulation.{Follows, GoesBack, HasUnknownName, IsBadHeader, IsNoRow, IsUntouched, Runs, as_film, as_waves, with_scans}
 use Rattle.text_trace.specs.Trace.{IsStep, Recorded, as_trace, as_watched, scanned}
 
 -- What is recorded, as it was asked for.
@@ -23,6 +24,10 @@ as_asked recordings.Trace = as_trace
 as_asked (recordings.Watched columns) = as_watched columns.now
 as_asked (recordings.Film film) = as_film film
 as_asked recordings.Waves = as_waves
+
+-- The same of a run, which may have scans between the records.
+abbrev pub as_run : Run → Recorded
+as_run run = with_scans run.every (as_asked run.recording)
 
 -- A film needs the text of the program.
 abbrev pub CanRecord : Recording → Drawing → Type 0

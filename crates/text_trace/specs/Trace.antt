@@ -47,8 +47,8 @@ watched_row p columns s =
 abbrev pub scanned : Drawing → Standing → ℕ → List Bool → Standing
 scanned p s moment inputs = record { held = after_scan (diagram_of p) moment inputs s.held; kinds = s.kinds; moment = moment }
 
--- What a simulation records: of how many records at most, the text before the scans, which begin in a state, and which text tells of a scan
--- from a state, at a moment, with these inputs.
+-- What a simulation records: of how many records at most where there are no scans in between, the text before the scans, which begin in a
+-- state, and which text tells of a scan from a state, at a moment, with these inputs.
 pub record Recorded : Type 1 where
   pub most : ℕ
   pub head : Drawing → Standing → List ℕ

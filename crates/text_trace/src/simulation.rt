@@ -16,7 +16,7 @@ ghost use Rattle.text_trace.specs.Coming.{Gives, IsFresh, IsSound};
 ghost use Rattle.text_trace.specs.Filled.{Numbered, filled};
 ghost use Rattle.text_trace.specs.Room.{IsReady};
 ghost use Rattle.text_trace.specs.Simulation.{Films, FollowsEvery, Simulates, SimulatesEvery, WatchesEvery, WavesEvery, as_film, as_waves};
-ghost use Rattle.text_trace.specs.Steps.{CanRecord, Ends, IsGoing, ScansTo, StepsTo, as_asked};
+ghost use Rattle.text_trace.specs.Steps.{CanRecord, Ends, IsGoing, ScansTo, StepsTo, as_asked, as_run};
 ghost use Rattle.text_trace.specs.Trace.{as_trace, as_watched};
 
 use crate::column::Column;
@@ -36,8 +36,11 @@ use std::alloc::{AllocError, Global};
 use text_drawing::{Scan, ShowFault, write_drawing, write_film_start};
 use text_vcd::{write_changes, write_start};
 
-/// The most records after the header.
+/// The most records after the header, where there are no scans between them.
 const MOST: u64 = 1_000_000;
+
+/// The most with those in between: a scan every 10 ms for three years.
+const MOST_FILLED: u64 = 10_000_000_000;
 
 /// The most of a film.
 const MOST_DRAWN: u64 = 1_000;
@@ -67,11 +70,14 @@ struct Run<'a> {
 }
 
 /// How many scans a stimulus may have: fewer in a film, for each scan is a whole drawing.
-fn most(recording: Recording<'_>) -> u64
-    ensures value { result ≡ (as_asked recording.entry).most }
-    ensures small { result ≤ 1000000 }
+fn most(run: Run<'_>) -> u64
+    ensures value { result ≡ (as_run run.entry).most }
+    ensures small { result ≤ 10000000000 }
 {
-    match recording {
+    if run.every > 0 {
+        return MOST_FILLED;
+    }
+    match run.recording {
         Recording::Trace | Recording::Watched(_) | Recording::Waves => MOST,
         Recording::Film(_) => MOST_DRAWN,
     }
@@ -244,7 +250,7 @@ fn step<W: Sink>(
     ensures ready { OnOk result (IsReady run.entry.program.now room.new) }
     ensures rest { OnOk result (IsTrueOf (diagram_of run.entry.program.now) state.new.moment state.new.held room.new.resting) }
     ensures steps { (fields : Fields) → Gives columns.now taken.moment (fields_of row.now) fields
-        → StepsTo (as_asked run.entry.recording) run.entry.program.now columns.now taken.number state.old fields state.new (W.log writer.old) (W.log writer.new) result }
+        → StepsTo (as_run run.entry) run.entry.program.now columns.now taken.number state.old fields state.new (W.log writer.old) (W.log writer.new) result }
 {
     let number = taken.number;
     let Some(moment) = taken.moment else {
@@ -284,10 +290,10 @@ fn follow_rows<W: Sink>(
     requires below { All (λ c. c < count_by is_input run.program.now.decls.vars) columns.now }
     ensures fits { Fits run.entry.program.now state.new }
     ensures ends { (all : List Numbered) (log : WriteLog)
-        → IsGoing (as_asked run.entry.recording) run.entry.program.now columns.now state.old all 0 state.old log (W.log writer.old) filling.old
-        → Ends (as_asked run.entry.recording) run.entry.program.now state.old all state.new log (W.log writer.new) result }
+        → IsGoing (as_run run.entry) run.entry.program.now columns.now state.old all 0 state.old log (W.log writer.old) filling.old
+        → Ends (as_run run.entry) run.entry.program.now state.old all state.new log (W.log writer.new) result }
 {
-    let most = most(run.recording);
+    let most = most(run);
     for done in 0..u64::MAX {
         let Ok(found) = take(columns, filling) else {
             return Err(SimFault::Memory);
@@ -320,7 +326,7 @@ fn follow_records<W: Sink>(
     requires rest { IsTrueOf (diagram_of run.program.now) state.old.moment state.old.held room.old.resting }
     ensures fits { Fits run.entry.program.now state.new }
     ensures ends { (rows : List Fields) → Left filling.old.records rows
-        → Ends (as_asked run.entry.recording) run.entry.program.now state.old (filled filling.old.every rows) state.new (W.log writer.old) (W.log writer.new) result }
+        → Ends (as_run run.entry) run.entry.program.now state.old (filled filling.old.every rows) state.new (W.log writer.old) (W.log writer.new) result }
 {
     let Ok(found) = next(&mut filling.records, &mut filling.last) else {
         return Err(SimFault::Memory);

@@ -8,7 +8,7 @@ use Rattle.io_text.specs.Log.{WriteLog}
 use Rattle.text_trace.specs.declared.fault.SimFault.{SimFault}
 use Rattle.text_trace.specs.Coming.{Gives}
 use Rattle.text_trace.specs.Room.{bits_of}
-use Rattle.text_trace.specs.Simulation.{as_film, as_waves}
+use Rattle.text_trace.specs.Simulation.{as_film, as_waves, with_scans}
 use Rattle.text_trace.specs.Steps.{ScansTo, StepsTo}
 use Rattle.text_trace.specs.Trace.{Recorded, as_trace, as_watched}
 use Rattle.text_trace.proofs.Scanned.{given_image, on_ok, over, steps_of}
@@ -21,7 +21,7 @@ of_row : (g : given.Over) (c : After-give_columns g) {T : Type 0} (recorded : Re
     → image ≡ over c.args.room.now.image.len c.give_columns.new.image (over c.args.room.now.image.len c.fill_inputs.new.image c.args.room.now.image.items)
     → ScansTo recorded c.args.run.program.now c.args.taken.number c.args.state.now c.in-Some.moment image t old new r
     → (fields : Fields) → Gives c.args.columns.now c.args.taken.moment (fields_of c.args.row.now) fields
-    → StepsTo recorded c.args.run.program.now c.args.columns.now c.args.taken.number c.args.state.now fields t old new r
+    → StepsTo (with_scans c.args.run.every recorded) c.args.run.program.now c.args.columns.now c.args.taken.number c.args.state.now fields t old new r
 of_row g c recorded image t old new r same scans fields gives =
     let bits = bits_of (fields_of c.args.row.now) in
     let kept = c.args.room.now.image in
@@ -29,7 +29,7 @@ of_row g c recorded image t old new r same scans fields gives =
     let given = given_image kept.len c.args.columns.now bits kept.items c.fill_inputs.new.image c.give_columns.new.image _ c.deref_mut-2.result.now
     (ap length (sym c.deref_mut.ensures.value) ∙ c.deref_mut.ensures.len) (c.fill_inputs.auto.image ∙ c.deref_mut.ensures.len) (c.give_columns.auto.image ∙ c.deref_mut-2.ensures.len)
     c.deref_mut-2.ensures.value filled c.give_columns.ensures in
-    steps_of recorded c.args.run.program.now c.args.columns.now c.args.taken.number c.args.state.now fields c.in-Some.moment bits image t old new r
+    steps_of recorded c.args.run.every c.args.run.program.now c.args.columns.now c.args.taken.number c.args.state.now fields c.in-Some.moment bits image t old new r
     (rw c.in-Some.is at gives).0 (same ∙ given) scans
 
 pub returns-in-Trace-clause-steps : goal.returns-in-Trace-clause-steps
