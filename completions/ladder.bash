@@ -37,7 +37,7 @@ _ladder() {
     case $subcommand in
         causes) options='--state --at --after --upto --limit --scans --for --every --grouped --terms --st --order --any --off --must --reachable --looks --runs --states --relevant --all-inputs --all-coils --progress --quiet --aliases --why --help' ;;
         show) options='--state --at --number --html --stimulus --coil --all-inputs --aliases --why --help' ;;
-        sim) options='--state --save --every --watch --watch-all --vcd --aliases --why --help' ;;
+        sim) options='--state --save --every --watch --watch-all --changes --vcd --aliases --why --help' ;;
         check) options='--warn --aliases --why --help' ;;
         uses) options='--aliases --why --help' ;;
         import) options='--open --control --hal --why --help' ;;

@@ -141,6 +141,7 @@ complete -c ladder -n '__ladder_at show more 0' -l coil -x -a '(__ladder_coils)'
 complete -c ladder -n '__ladder_at sim more 0' -l every -x -d 'Also scans between the records, so many ms apart'
 complete -c ladder -n '__ladder_at sim more 0' -l watch -x -a '(__ladder_names)' -d 'A variable or a block beside the outputs'
 complete -c ladder -n '__ladder_at sim more 0' -l watch-all -d 'All memory variables and blocks beside the outputs'
+complete -c ladder -n '__ladder_at sim more 0' -l changes -d 'Rows only where something else than the moment changes'
 complete -c ladder -n '__ladder_at sim more 0' -l vcd -d 'A waveform in place of the trace'
 complete -c ladder -n '__ladder_at sim more 0' -l save -r -F -d 'The file that gets the state after the last scan'
 

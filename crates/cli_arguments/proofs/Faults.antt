@@ -5,7 +5,7 @@ use Rattle.std.proofs.lemmas.Bool.{both_ways}
 use Rattle.std.proofs.lemmas.Slice.Eq.{bytes_eq-Decides}
 use Rattle.clap.specs.Words.{Row, Text, all_of, first_of}
 use Rattle.cli_options.specs.Pages.{is_fault_code}
-use Rattle.cli_arguments.specs.Asking.{Asks, AsksNone, HasCoil, HasControl, HasEvery, HasExcluded, HasFlag, HasForm, HasGrouping, HasInputs, HasLasting, HasNoTask, HasNumber, HasOption, HasOrder, HasPace, HasRuns, HasScans, HasSwitch, HasWatched, IsNamed, IsOfOneState, IsPlain, IsSingle, IsTable, IsWhole, MayGroup, MayHaveLimit, NamesCauses, NamesList, NamesTrace, input_texts, inputs_for}
+use Rattle.cli_arguments.specs.Asking.{Asks, AsksNone, HasCoil, HasControl, HasEvery, HasExcluded, HasFlag, HasForm, HasGrouping, HasInputs, HasLasting, HasNoTask, HasNumber, HasOption, HasOrder, HasPace, HasRuns, HasScans, HasSwitch, HasWatched, IsNamed, IsOfOneState, IsPlain, IsPlainTrace, IsSingle, IsTable, IsWhole, MayGroup, MayHaveLimit, NamesCauses, NamesList, NamesTrace, input_texts, inputs_for}
 use Rattle.cli_arguments.specs.Parts.{IsOfAnyState, IsOfOneScan, IsOfRecords, IsUncut, MayLast, NamesNoDiff, NamesNoDiffRuns, NamesNoEnd, NamesNoRuns, NamesNoStates, NamesNoVerdicts, NamesScan, Plays}
 use Rattle.cli_arguments.specs.Faults.{UsageWhere}
 use Rattle.cli_arguments.specs.declared.request.GroupFormat.{GroupFormat}
@@ -442,13 +442,13 @@ no_film_of_waves rows some none =
     only_show rows (λ r h. some h.1) (λ r h. none (record { state = r.state; file = r.file; stimulus = r.stimulus }) (h.5, h.8, h.1))
 
 -- the trace of a stimulus, and what is watched besides
-pub no_trace : (rows : List Row) → (HasFlag (codes "vcd") rows → ⊥) → HasWatched rows false [] → ((r : SimRequest) → NamesTrace rows r → ⊥) → AsksNone (codes "sim") rows
+pub no_trace : (rows : List Row) → (HasFlag (codes "vcd") rows → ⊥) → IsPlainTrace rows → ((r : SimRequest) → NamesTrace rows r → ⊥) → AsksNone (codes "sim") rows
 no_trace rows vcd nothing none = only_sim rows (λ r h. none r h.3) (λ r h. h.2 nothing) (λ r h. vcd h.1)
 
-pub no_watch : (rows : List Row) → (HasFlag (codes "vcd") rows → ⊥) → (HasWatched rows false [] → ⊥) → ((r : SimRequest) → NamesTrace rows r → ⊥) → AsksNone (codes "sim") rows
-no_watch rows vcd some none = only_sim rows (λ r h. some h.2) (λ r h. none r.sim h.4) (λ r h. vcd h.1)
+pub no_watch : (rows : List Row) → (HasFlag (codes "vcd") rows → ⊥) → (IsPlainTrace rows → ⊥) → ((r : SimRequest) → NamesTrace rows r → ⊥) → AsksNone (codes "sim") rows
+no_watch rows vcd some none = only_sim rows (λ r h. some h.2) (λ r h. none r.sim h.5) (λ r h. vcd h.1)
 
-pub no_watch_of_names : (rows : List Row) → (HasFlag (codes "vcd") rows → ⊥) → (HasWatched rows false [] → ⊥) → ((all : Bool) (names : List Text) → HasWatched rows all names → ⊥)
+pub no_watch_of_names : (rows : List Row) → (HasFlag (codes "vcd") rows → ⊥) → (IsPlainTrace rows → ⊥) → ((all : Bool) (names : List Text) → HasWatched rows all names → ⊥)
     → AsksNone (codes "sim") rows
 no_watch_of_names rows vcd some none = only_sim rows (λ r h. some h.2) (λ r h. none r.all (map string_bytes r.names.items) h.3) (λ r h. vcd h.1)
 
@@ -471,9 +471,9 @@ no_waves_of_every rows vcd none = only_sim rows (λ r h. h.1 vcd) (λ r h. h.1 v
 pub no_waves_of_save : (rows : List Row) → HasFlag (codes "vcd") rows → (HasOption (codes "save") rows None → ⊥) → AsksNone (codes "sim") rows
 no_waves_of_save rows vcd none = only_sim rows (λ r h. h.1 vcd) (λ r h. h.1 vcd) (λ r h. none h.2)
 
--- So is what is watched.
-pub no_waves_of_watched : (rows : List Row) → HasFlag (codes "vcd") rows → (HasWatched rows false [] → ⊥) → AsksNone (codes "sim") rows
-no_waves_of_watched rows vcd none = only_sim rows (λ r h. h.1 vcd) (λ r h. h.1 vcd) (λ r h. none h.7)
+-- So is what is watched, and which rows are written.
+pub no_waves_of_rows : (rows : List Row) → HasFlag (codes "vcd") rows → (IsPlainTrace rows → ⊥) → AsksNone (codes "sim") rows
+no_waves_of_rows rows vcd none = only_sim rows (λ r h. h.1 vcd) (λ r h. h.1 vcd) (λ r h. none h.7)
 
 -- what is read of a file that is not named
 pub no_excluded : (rows : List Row) → ((e : Excluded) → HasExcluded e rows → ⊥) → AsksNone (codes "never") rows

@@ -174,6 +174,10 @@ pub record HasWatched (rows : List Row) (all : Bool) (names : List Text) : Type 
   pub named : unwrap_or (all_of (codes "watch") rows) [] ≡ names
   pub either : all ≡ true → names ≡ []
 
+-- Nothing is watched beside the outputs, and all rows are written.
+abbrev pub IsPlainTrace : List Row → Type 0
+IsPlainTrace rows = HasWatched rows false [] × (HasFlag (codes "changes") rows → ⊥)
+
 -- what a request for the trace of a stimulus names, but for what is watched
 abbrev pub NamesTrace : List Row → SimRequest → Type 0
 NamesTrace rows r = HasOption (codes "state") rows (option_map string_bytes r.state)
@@ -319,12 +323,13 @@ Asks name rows (Film r) = (name ≡ codes "show")
     × HasText (codes "file") rows (string_bytes r.file)
 Asks name rows (Sim r) = (name ≡ codes "sim")
     × (HasFlag (codes "vcd") rows → ⊥)
-    × HasWatched rows false []
+    × IsPlainTrace rows
     × NamesTrace rows r
 Asks name rows (Watch r) = (name ≡ codes "sim")
     × (HasFlag (codes "vcd") rows → ⊥)
-    × (HasWatched rows false [] → ⊥)
+    × (IsPlainTrace rows → ⊥)
     × HasWatched rows r.all (map string_bytes r.names.items)
+    × HasSwitch (codes "changes") rows r.changes
     × NamesTrace rows r.sim
 Asks name rows (Waves r) = (name ≡ codes "sim")
     × HasFlag (codes "vcd") rows
@@ -333,7 +338,7 @@ Asks name rows (Waves r) = (name ≡ codes "sim")
     × HasNumber (codes "every") rows r.every
     × HasText (codes "file") rows (string_bytes r.file)
     × HasText (codes "stimulus") rows (string_bytes r.stimulus)
-    × HasWatched rows false []
+    × IsPlainTrace rows
 Asks name rows (Uses file) = (name ≡ codes "uses") × HasText (codes "file") rows (string_bytes file)
 Asks name rows (Import opened control_on file hal) = (name ≡ codes "import")
     × HasSwitch (codes "open") rows opened

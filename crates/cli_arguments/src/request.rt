@@ -176,7 +176,7 @@ pub struct SimRequest {
     pub stimulus: String,
 }
 
-/// What a request for the trace of a stimulus names where something is watched.
+/// What a request for the trace of a stimulus names where something is watched, or only changes are written.
 #[derive(Drop)]
 pub struct WatchRequest {
     /// What it names besides.
@@ -185,6 +185,8 @@ pub struct WatchRequest {
     pub all: bool,
     /// The names of the variables and instances that are watched.
     pub names: Vec<String>,
+    /// Whether of the rows after the first those are written that aren't like the row before but for the moment.
+    pub changes: bool,
 }
 
 /// What a request for the waveform of a stimulus names.
@@ -397,7 +399,7 @@ pub enum Request {
     Film(FilmRequest),
     /// The trace of a stimulus: one scan for each of its records, and those between them.
     Sim(SimRequest),
-    /// The trace of a stimulus, with the variables and instances that are watched beside its outputs.
+    /// The trace of a stimulus, with the variables and instances that are watched beside its outputs, whole or of changes.
     Watch(WatchRequest),
     /// The waveform of a stimulus: what each of its scans changes.
     Waves(WavesRequest),

@@ -2,7 +2,7 @@
 
 ghost use Rattle.std.specs.Prelude.{◌≡◌, Bool, List, [], true, false, codes, IfOk, IfErr, map, string_bytes, Option};
 ghost use Rattle.clap.specs.Words.{Text, found_of, rows_of};
-ghost use Rattle.cli_arguments.specs.Asking.{Asks, AsksNone, HasFlag, HasWatched, NamesTrace};
+ghost use Rattle.cli_arguments.specs.Asking.{Asks, AsksNone, HasFlag, HasWatched, IsPlainTrace, NamesTrace};
 ghost use Rattle.cli_arguments.specs.Parts.{Plays};
 ghost use Rattle.cli_arguments.specs.Faults.{UsageWhere};
 
@@ -12,7 +12,7 @@ use crate::request::{Request, SimRequest, WatchRequest, WavesRequest, WordFault}
 use clap::ArgMatches;
 use std::alloc::Global;
 
-/// The request of `sim`: a trace, a trace with watched columns, or a waveform.
+/// The request of `sim`: a trace, one with watched columns or of changes, or a waveform.
 pub(crate) fn sim_request(alloc: Global, found: &ArgMatches<'_>) -> Result<Request, WordFault>
     ensures ok { IfOk result (Asks (codes "sim") (rows_of (found_of found.now))) }
     ensures err { IfErr result (UsageWhere (AsksNone (codes "sim") (rows_of (found_of found.now)))) }
@@ -20,10 +20,10 @@ pub(crate) fn sim_request(alloc: Global, found: &ArgMatches<'_>) -> Result<Reque
     if is_set(found, "vcd") {
         return waves_request(alloc, found);
     }
-    if is_watched(found) {
-        return watch_request(alloc, found);
+    if is_plain(found) {
+        return trace_request(alloc, found);
     }
-    trace_request(alloc, found)
+    watch_request(alloc, found)
 }
 
 /// Whether columns beside the outputs are asked for.
@@ -32,6 +32,14 @@ fn is_watched(found: &ArgMatches<'_>) -> bool
     ensures some { result ≡ true → HasWatched (rows_of (found_of found.now)) false [] → ⊥ }
 {
     is_set(found, "watch-all") || is_given(found, "watch")
+}
+
+/// Whether a trace has no columns beside the outputs, and all its rows.
+fn is_plain(found: &ArgMatches<'_>) -> bool
+    ensures plain { result ≡ true → IsPlainTrace (rows_of (found_of found.now)) }
+    ensures other { result ≡ false → IsPlainTrace (rows_of (found_of found.now)) → ⊥ }
+{
+    !is_watched(found) && !is_set(found, "changes")
 }
 
 /// The request for the waveform of a stimulus.
@@ -44,8 +52,8 @@ fn waves_request(alloc: Global, found: &ArgMatches<'_>) -> Result<Request, WordF
     if is_given(found, "save") {
         return Err(WordFault::Usage);
     }
-    // A waveform has all that can be watched.
-    if is_watched(found) {
+    // A waveform has all that can be watched, and only changes.
+    if !is_plain(found) {
         return Err(WordFault::Usage);
     }
     let pause = number(found, "every")?;
@@ -87,7 +95,7 @@ pub(crate) fn played_of(alloc: Global, found: &ArgMatches<'_>) -> Result<Played,
 /// The request for the trace of a stimulus with its outputs alone.
 fn trace_request(alloc: Global, found: &ArgMatches<'_>) -> Result<Request, WordFault>
     requires vcd { HasFlag (codes "vcd") (rows_of (found_of found.now)) → ⊥ }
-    requires watched { HasWatched (rows_of (found_of found.now)) false [] }
+    requires plain { IsPlainTrace (rows_of (found_of found.now)) }
     ensures ok { IfOk result (Asks (codes "sim") (rows_of (found_of found.now))) }
     ensures err { IfErr result (UsageWhere (AsksNone (codes "sim") (rows_of (found_of found.now)))) }
 {
@@ -97,16 +105,22 @@ fn trace_request(alloc: Global, found: &ArgMatches<'_>) -> Result<Request, WordF
     }
 }
 
-/// The request for the trace of a stimulus with watched columns.
+/// The request for the trace of a stimulus with watched columns, or of changes.
 fn watch_request(alloc: Global, found: &ArgMatches<'_>) -> Result<Request, WordFault>
     requires vcd { HasFlag (codes "vcd") (rows_of (found_of found.now)) → ⊥ }
-    requires watched { HasWatched (rows_of (found_of found.now)) false [] → ⊥ }
+    requires other { IsPlainTrace (rows_of (found_of found.now)) → ⊥ }
     ensures ok { IfOk result (Asks (codes "sim") (rows_of (found_of found.now))) }
     ensures err { IfErr result (UsageWhere (AsksNone (codes "sim") (rows_of (found_of found.now)))) }
 {
     let WatchedNames { all, names } = watched_of(alloc, found)?;
     let sim = traced_of(alloc, found)?;
-    Ok(Request::Watch(WatchRequest { sim, all, names }))
+    let changes = is_set(found, "changes");
+    Ok(Request::Watch(WatchRequest {
+        sim,
+        all,
+        names,
+        changes,
+    }))
 }
 
 /// What is watched: all, or what has these names.

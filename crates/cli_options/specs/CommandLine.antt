@@ -99,7 +99,7 @@ show_app = taking (codes "show") (
 
 abbrev pub sim_app : App
 sim_app = taking (codes "sim") (
-    text_rule (codes "state") ∷ text_rule (codes "save") ∷ positive_rule (codes "every") ∷ texts_rule (codes "watch") ∷ flag_rule (codes "watch-all") ∷ flag_rule (codes "vcd") ∷ flag_rule (codes "aliases") ∷ flag_rule (codes "why") ∷ place_rule (codes "file") ∷ place_rule (codes "stimulus") ∷ []
+    text_rule (codes "state") ∷ text_rule (codes "save") ∷ positive_rule (codes "every") ∷ texts_rule (codes "watch") ∷ flag_rule (codes "watch-all") ∷ flag_rule (codes "changes") ∷ flag_rule (codes "vcd") ∷ flag_rule (codes "aliases") ∷ flag_rule (codes "why") ∷ place_rule (codes "file") ∷ place_rule (codes "stimulus") ∷ []
     )
 
 abbrev pub import_app : App

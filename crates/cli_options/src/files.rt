@@ -122,7 +122,7 @@ moment,Motor,Lamp
 pub(crate) const X5: &str = "\
 X5: a text is too long
 
-A program, a project, a state and a HAL file have at most 1,048,576 bytes, a stimulus 16,777,216 bytes (`fault X5 stimulus`) and 1,000,000 records after its header (`fault X5 row 1000002`); one that `show --stimulus` shows has 1,000 (`fault X5 row 1002`). With `sim --every` the scans between the records count as well: the row is the record before which the limit is reached.
+A program, a project, a state and a HAL file have at most 1,048,576 bytes, a stimulus 16,777,216 bytes (`fault X5 stimulus`) and 1,000,000 records after its header (`fault X5 row 1000002`); one that `show --stimulus` shows has 1,000 (`fault X5 row 1002`). With `sim --every` there are at most 10,000,000,000 scans, those between the records included; the row is the record before which the limit is reached.
 
 ```console
 $ { cat motor.ld; yes '' | head -c 1048576; } > long.ld

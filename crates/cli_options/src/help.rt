@@ -244,6 +244,9 @@ pub(crate) const WATCH_ALL_HELP: &str = "Also prints all memory variables and th
 blocks so, in order of declaration; not with
 --watch or --vcd";
 
+pub(crate) const CHANGES_HELP: &str =
+    "Rows only where something else than the moment changes; not with --vcd";
+
 pub(crate) const SAVE_HELP: &str = "The file that gets the state after the last scan";
 
 pub(crate) const HOLD_HELP: &str = "Also scans between the records, with their inputs

@@ -70,7 +70,7 @@ The status is 2. A subcommand, a file, a coil or a name is missing, an option is
 | | Wants | Excludes |
 |---|---|---|
 | `--vcd` |  | `--save`, `--watch`, `--watch-all` |
-| `--watch-all` |  | `--watch` |
+| `--watch-all` with `--changes` |  | `--watch` |
 
 `ladder never`:
 

@@ -16,8 +16,9 @@ use Rattle.reach_runs.specs.declared.timing.Timing.TheVariants.{AnyMoments, Ever
 use Rattle.reach_runs.proofs.GivenLaws.{as_many, rank, rank_none, rank_off, rank_on}
 use Rattle.text_runs.specs.Laws.{IsScanOf}
 use Rattle.text_runs.specs.Making.{IsBriefSimulated, IsSimulated, MakesScans}
+use Rattle.text_trace.specs.Simulation.{with_scans}
 use Rattle.text_trace.specs.Trace.{as_trace}
-use Rattle.cli_reach.specs.Finding.{IsReplayed, rows_of}
+use Rattle.cli_reach.specs.Finding.{IsReplayed, rows_of, time_of}
 
 -- the rank of the first n variables is the number of the inputs among them
 rank_counts : (v : Var) (vars : List Var) (n : ℕ) → n ≤ length vars → rank (map is_input vars) n ≡ count_by is_input (take n vars)
@@ -44,10 +45,10 @@ scans_of q run given small = λ k d there.
     (as_many q (slice_index_or run k d).inputs q.program.decls.vars refl (given k d there) ∙ all_counted q.program.decls.vars, small k d there)
 
 replayed_in : (timing : Timing) (p : Drawing) (s : Standing) (from : ℕ) (run : List OneScan) → Fits p s → s.moment ≤ from → AreTimed timing from run
-    → All (IsScanOf p) run → IsSimulated p → IsBriefSimulated p → MakesScans as_trace p s run (rows_of timing p run)
-replayed_in AnyMoments p s from run fits later timed all full brief = (full s AnyMoments from run fits later timed all).trace
-replayed_in (Every zero) p s from run fits later timed all full brief = (full s (Every zero) from run fits later timed all).trace
-replayed_in (Every (suc more)) p s from run fits later timed all full brief = (brief s (suc more) from run fits later (omega arith) timed all).trace
+    → All (IsScanOf p) run → IsSimulated p → IsBriefSimulated p → MakesScans (with_scans (time_of timing) as_trace) p s run (rows_of timing p run)
+replayed_in AnyMoments p s from run fits later timed all full brief = (full s AnyMoments from run fits later timed all).trace 0
+replayed_in (Every zero) p s from run fits later timed all full brief = (full s (Every zero) from run fits later timed all).trace 0
+replayed_in (Every (suc more)) p s from run fits later timed all full brief = (brief s (suc more) from run fits later (omega arith) timed all).trace (suc more)
 
 pub replayed : (q : RunQuestion) (run : List OneScan) → Fits q.program q.state → q.state.moment ≤ q.from → SwitchesOn q run
     → All (λ scan. scan.moment < 2 ^ 64) run → IsSimulated q.program → IsBriefSimulated q.program → IsReplayed q run

@@ -12,6 +12,7 @@ use Rattle.reach_runs.specs.declared.timing.Timing.TheVariants.{AnyMoments, Ever
 use Rattle.text_runs.specs.Making.{MakesScans}
 use Rattle.text_runs.specs.RunText.{brief_text, run_text}
 use Rattle.text_trace.specs.Filled.{all_fields, filled}
+use Rattle.text_trace.specs.Simulation.{with_scans}
 use Rattle.text_trace.specs.Trace.{as_trace}
 use Rattle.cli_reach.specs.declared.finding.Found.{Found}
 use Rattle.cli_reach.specs.declared.finding.Found.TheVariants.{Run, Never, NotIn, Unsettled}
@@ -28,9 +29,14 @@ rows_of AnyMoments p run = records_of (run_text p run)
 rows_of (Every zero) p run = records_of (run_text p run)
 rows_of (Every (suc more)) p run = all_fields (filled (suc more) (records_of (brief_text p run)))
 
+-- the time between two scans of a simulation of the text; 0 where it makes none between two records
+abbrev pub time_of : Timing → ℕ
+time_of AnyMoments = 0
+time_of (Every every) = every
+
 -- A simulation of the text, from the state that is asked from, makes the run.
 abbrev pub IsReplayed : RunQuestion → List OneScan → Type 0
-IsReplayed q run = MakesScans as_trace q.program q.state run (rows_of q.timing q.program run)
+IsReplayed q run = MakesScans (with_scans (time_of q.timing) as_trace) q.program q.state run (rows_of q.timing q.program run)
 
 -- What is found is so, and this is its text: that of a run which switches the target on, as a stimulus, or none.
 abbrev pub IsFound : RunQuestion → Option ℕ → Found → List ℕ → Type 0

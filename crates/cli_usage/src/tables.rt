@@ -94,7 +94,10 @@ const SIM: &[Rule] = &[
             Term::Flag("watch-all"),
         ],
     ),
-    Rule::Excludes(&[Term::Flag("watch-all")], &[Term::Valued("watch")]),
+    Rule::Excludes(
+        &[Term::Flag("watch-all"), Term::Flag("changes")],
+        &[Term::Valued("watch")],
+    ),
 ];
 
 const NEVER: &[Rule] = &[Rule::Excludes(&[Term::Flag("off")], &[Term::Flag("pairs")])];

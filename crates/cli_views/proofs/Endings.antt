@@ -61,6 +61,6 @@ pub same_waves : (every other : ℕ) (p : Drawing) (s t : Standing) (a b : List 
     → WavesEvery every p s (records_of a) t old new r → WavesEvery other p s (records_of b) t old new r
 same_waves every other p s t a b old new r e f h = rw (← f) (rw e at h)
 
-pub same_watched : (columns others : List Column) (every other : ℕ) (p : Drawing) (s t : Standing) (a b : List ℕ) (old new : WriteLog) (r : Result ℕ SimFault) → columns ≡ others → a ≡ b
-    → every ≡ other → WatchesEvery columns every p s (records_of a) t old new r → WatchesEvery others other p s (records_of b) t old new r
-same_watched columns others every other p s t a b old new r c e f h = rw (← c, ← f) (rw e at h)
+pub same_watched : (changes : Bool) (columns others : List Column) (every other : ℕ) (p : Drawing) (s t : Standing) (a b : List ℕ) (old new : WriteLog) (r : Result ℕ SimFault) → columns ≡ others → a ≡ b
+    → every ≡ other → WatchesEvery changes columns every p s (records_of a) t old new r → WatchesEvery changes others other p s (records_of b) t old new r
+same_watched changes columns others every other p s t a b old new r c e f h = rw (← c, ← f) (rw e at h)

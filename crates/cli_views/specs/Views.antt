@@ -143,7 +143,7 @@ BreaksTrace g every saves old new =
 
 -- ---- a simulation with what is watched
 
--- The stimulus was simulated so, with what is watched beside the outputs.
+-- The stimulus was simulated so, with what is watched beside the outputs: the trace was written whole, or that of changes.
 pub record Watches (g : Given) (r : WatchRequest) (out out' : WriteLog) (end : Result ℕ SimFault) (Saved : Drawing → Standing → Type 0) : Type 0 where
   pub program : Drawing
   pub before : Standing
@@ -151,10 +151,10 @@ pub record Watches (g : Given) (r : WatchRequest) (out out' : WriteLog) (end : R
   pub columns : List Column
   pub set : IsSet g program before
   pub watched : AreColumns program.decls r.all (map string_bytes r.names.items) columns
-  pub trace : WatchesEvery columns (unwrap_or r.sim.every 0) program before (stimulus_records g) after out out' end
+  pub trace : WatchesEvery r.changes columns (unwrap_or r.sim.every 0) program before (stimulus_records g) after out out' end
   pub saved : Saved program after
 
--- Status 0: the trace of the whole stimulus was written.
+-- Status 0: this trace of the whole stimulus was written.
 abbrev pub IsWatched : Given → WatchRequest → Logs → Logs → Type 0
 IsWatched g r old new =
     (scans : ℕ) × Watches g r old.out new.out (Ok scans) (IsSaved (is_some r.sim.save) old.save new.save) × (new.err ≡ old.err)

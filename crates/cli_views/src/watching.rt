@@ -1,4 +1,4 @@
-//! A request for the trace of a stimulus with what is watched beside its outputs.
+//! A request for the trace of a stimulus with what is watched beside its outputs, or of changes.
 
 ghost use Rattle.std.specs.Prelude.{◌≡◌, ◌≤◌, ◌⊎◌};
 ghost use Rattle.cli_inputs.specs.Reports.{Refuses, logs};
@@ -12,7 +12,7 @@ use cli_arguments::WatchRequest;
 use cli_inputs::{Setting, Texts, ToolFault, read_setting, report};
 use io_text::Sink;
 use std::alloc::Global;
-use text_trace::watch as watch_scans;
+use text_trace::{Watched, watch as watch_scans};
 
 /// Simulates the stimulus from a state, and saves the one after the last scan where that is asked for.
 fn watch_from<O: Sink, S: Sink, E: Sink>(
@@ -38,7 +38,11 @@ fn watch_from<O: Sink, S: Sink, E: Sink>(
         Err(fault) => return report(texts, &fault, err),
     };
     let every = request.sim.every.unwrap_or(0);
-    let run = watch_scans(alloc, program, &columns, state, stimulus(texts), every, out);
+    let watched = Watched {
+        columns: &columns,
+        changes: request.changes,
+    };
+    let run = watch_scans(alloc, program, watched, state, stimulus(texts), every, out);
     if let Err(fault) = run {
         return report(texts, &ToolFault::Sim(fault), err);
     }

@@ -16,7 +16,7 @@ use Rattle.text_runs.specs.Making.{EndsWell, left_by, trace_rows}
 use Rattle.text_runs.specs.RunText.{run_header, scan_row}
 use Rattle.text_trace.specs.declared.fault.SimFault.{SimFault}
 use Rattle.text_trace.specs.declared.fault.SimFault.TheVariants as fault
-use Rattle.text_trace.specs.Simulation.{Follows, GoesBack, HasAt, HasUnknownName, HasWord, IsBadHeader, IsNoRow, Runs}
+use Rattle.text_trace.specs.Simulation.{Follows, GoesBack, HasAt, HasUnknownName, HasWord, IsBadHeader, IsNoRow, Runs, with_scans}
 use Rattle.text_trace.specs.Stimulus.{IsHeader, IsRow}
 use Rattle.text_trace.specs.Trace.{IsStep, Recorded, as_trace, inputs_given, scanned, trace_header, trace_row, values_of}
 use Rattle.text_runs.proofs.Leaving.{none_leave, not_before, one_more, take_next, values_count}
@@ -72,7 +72,7 @@ module _ (recorded : Recorded) (p : Drawing) (s : Standing) (scans : List OneSca
 
   -- one record more
   step_to : (columns : List ℕ) (n : ℕ) (r : Fields) (piece : List ℕ) (u t : Standing) → columns ≡ all_inputs p → u ≡ left_by p (take n scans) s
-      → slice_get (map scan_row scans) n ≡ Some r → IsStep recorded p columns u r t piece → (suc n ≤ length scans) × (t ≡ left_by p (take (suc n) scans) s)
+      → slice_get (map scan_row scans) n ≡ Some r → IsStep recorded p columns n u r t piece → (suc n ≤ length scans) × (t ≡ left_by p (take (suc n) scans) s)
   step_to columns n r piece u t same at there step =
       let found = scan_of scans n r there in
       let x = found.0 in
@@ -180,21 +180,21 @@ next_rows p s scans n x e =
     ∙ rows_after p s (take n scans) x
     ∙ ap (λ (t : Standing). trace_rows p s (take n scans) ++ trace_row p t) (sym (one_more p scans s n x e))
 
-module _ (p : Drawing) (s : Standing) (scans : List OneScan) (g : IsGiven p s scans) where
-  pub trace_is : (columns : List ℕ) (n : ℕ) (text piece : List ℕ) (t : Standing) → Runs as_trace p columns s (rows_of p scans) n text piece t
+module _ (every : ℕ) (p : Drawing) (s : Standing) (scans : List OneScan) (g : IsGiven p s scans) where
+  pub trace_is : (columns : List ℕ) (n : ℕ) (text piece : List ℕ) (t : Standing) → Runs (with_scans every as_trace) p columns s (rows_of p scans) n text piece t
       → text ++ piece ≡ trace_header p ++ trace_rows p s (take n scans)
   unfolding Runs
   trace_is columns zero text piece t h = ap₂ (λ (a b : List ℕ). a ++ b) h.1 h.2 ∙ sym (append-nil (trace_header p))
   trace_is columns (suc k) text piece t h =
       let found = scan_of scans k h.5.0 h.5.1 in
-      let all : Runs as_trace p columns s (rows_of p scans) (suc k) text piece t = h in
-      let there = (leads as_trace p s scans g columns (suc k) text piece t all).1 in
+      let all : Runs (with_scans every as_trace) p columns s (rows_of p scans) (suc k) text piece t = h in
+      let there = (leads (with_scans every as_trace) p s scans g columns (suc k) text piece t all).1 in
       let row : piece ≡ trace_row p (left_by p (take (suc k) scans) s) = h.5.2.told ∙ ap (trace_row p) (sym h.5.2.after ∙ there) in
       ap₂ (λ (a b : List ℕ). a ++ b) (h.4 ∙ trace_is columns k h.0 h.1 h.2 h.3) row
       ∙ append_assoc (trace_header p) (trace_rows p s (take k scans)) (trace_row p (left_by p (take (suc k) scans) s))
       ∙ ap (λ (l : List ℕ). trace_header p ++ l) (sym (next_rows p s scans k found.0 found.1))
 
-  pub written : (t : Standing) (old new : WriteLog) (n : ℕ) → Follows as_trace p s (rows_of p scans) t old new (Ok n)
+  pub written : (t : Standing) (old new : WriteLog) (n : ℕ) → Follows (with_scans every as_trace) p s (rows_of p scans) t old new (Ok n)
       → PutsAll old new (trace_header p ++ trace_rows p s scans)
   written t old new n h =
       let c = h.0.course in
@@ -203,7 +203,7 @@ module _ (p : Drawing) (s : Standing) (scans : List OneScan) (g : IsGiven p s sc
       subst (PutsAll old new) (trace_is c.columns n c.text c.piece t c.runs ∙ ap (λ (l : List OneScan). trace_header p ++ trace_rows p s l) all) h.0.wrote
 
   pub runs : (n : ℕ) → n ≤ length scans
-      → (text : List ℕ) × (piece : List ℕ) × Runs as_trace p (all_inputs p) s (rows_of p scans) n text piece (left_by p (take n scans) s)
+      → (text : List ℕ) × (piece : List ℕ) × Runs (with_scans every as_trace) p (all_inputs p) s (rows_of p scans) n text piece (left_by p (take n scans) s)
   unfolding Runs
   runs zero h = ([], trace_header p, ((run_header p, refl, g.header), refl, refl, none_leave p scans s))
   runs (suc k) h =
@@ -213,9 +213,9 @@ module _ (p : Drawing) (s : Standing) (scans : List OneScan) (g : IsGiven p s sc
       let found = some_there scans k h in
       let x = found.0 in
       let next = one_more p scans s k x found.1 in
-      let inputs = inputs_are as_trace p s scans g k x found.1 in
+      let inputs = inputs_are (with_scans every as_trace) p s scans g k x found.1 in
       let first : s.moment ≤ s.moment = omega arith in
-      let step : IsStep as_trace p (all_inputs p) u (scan_row x) t (trace_row p t) = record {
+      let step : IsStep (with_scans every as_trace) p (all_inputs p) k u (scan_row x) t (trace_row p t) = record {
         moment = x.moment;
         bits = x.inputs;
         row = (g.rows k x found.1).row;

@@ -13,7 +13,7 @@ use Rattle.scan_cycle.specs.Runs.{IsRun, OneScan}
 use Rattle.scan_cycle.specs.Standing.{Fits, Standing}
 use Rattle.text_runs.specs.Laws.{IsBriefRun, IsScanOf, IsStimulusOfRun, TellsRun, TellsScan}
 use Rattle.text_runs.specs.Making.{IsBriefSimulated, IsSimulated, IsSimulatedAs, MakesScans}
-use Rattle.text_trace.specs.Simulation.{as_film, as_waves}
+use Rattle.text_trace.specs.Simulation.{as_film, as_waves, with_scans}
 use Rattle.text_trace.specs.Trace.{Recorded, as_trace, as_watched}
 use Rattle.text_runs.proofs.Lengths.{scans_keep}
 use Rattle.text_runs.proofs.Making.{IsGiven, ends, leads, rows_of, runs, written}
@@ -46,12 +46,12 @@ is_simulated p told s timing from scans fits later timed all =
     let run = told scans all in
     let g = given_of p s timing from scans run fits later timed all in
     subst (λ (rows : List Fields). IsSimulatedAs p s scans rows) (sym run.records) (record {
-      trace = makes as_trace p s scans g;
-      watched = λ columns. makes (as_watched columns) p s scans g;
+      trace = λ every. makes (with_scans every as_trace) p s scans g;
+      watched = λ every columns. makes (with_scans every (as_watched columns)) p s scans g;
       film = λ film. makes (as_film film) p s scans g;
-      waves = makes as_waves p s scans g;
-      written = written p s scans g;
-      runs = runs p s scans g;
+      waves = λ every. makes (with_scans every as_waves) p s scans g;
+      written = λ every. written every p s scans g;
+      runs = λ every. runs every p s scans g;
     })
 
 pub is_brief_simulated : (p : Drawing) → IsBriefRun p → IsSimulated p → IsBriefSimulated p

@@ -16,7 +16,7 @@ use Rattle.text_trace.specs.declared.fault.SimFault.{SimFault}
 use Rattle.text_trace.specs.declared.fault.SimFault.TheVariants as fault
 use Rattle.text_trace.specs.declared.recording.Film.{Film}
 use Rattle.text_trace.specs.Filled.{all_fields, filled}
-use Rattle.text_trace.specs.Simulation.{Follows, Runs, Simulates, as_film, as_waves}
+use Rattle.text_trace.specs.Simulation.{Follows, Runs, as_film, as_waves, with_scans}
 use Rattle.text_trace.specs.Trace.{Recorded, as_trace, as_watched, scanned, trace_header, trace_row}
 
 -- the moment of the last scan, or this one where there is none
@@ -51,15 +51,17 @@ pub record MakesScans (recorded : Recorded) (p : Drawing) (s : Standing) (scans 
       → (n ≤ length scans) × (t ≡ left_by p (take n scans) s)
   pub ends : (t : Standing) (old new : WriteLog) (end : Result ℕ SimFault) → Follows recorded p s rows t old new end → EndsWell recorded.most p s scans t end
 
--- So it is whatever is recorded. A trace has a row for each scan, of the state after it; and the first n records do lead somewhere.
+-- So it is whatever is recorded, as many records as a simulation takes by the time between two scans. A trace has a row for each scan, of the
+-- state after it; and the first n records do lead somewhere.
 pub record IsSimulatedAs (p : Drawing) (s : Standing) (scans : List OneScan) (rows : List Fields) : Type 0 where
-  pub trace : MakesScans as_trace p s scans rows
-  pub watched : (columns : List Column) → MakesScans (as_watched columns) p s scans rows
+  pub trace : (every : ℕ) → MakesScans (with_scans every as_trace) p s scans rows
+  pub watched : (every : ℕ) (columns : List Column) → MakesScans (with_scans every (as_watched columns)) p s scans rows
   pub film : (film : Film) → MakesScans (as_film film) p s scans rows
-  pub waves : MakesScans as_waves p s scans rows
-  pub written : (t : Standing) (old new : WriteLog) (n : ℕ) → Simulates p s rows t old new (Ok n) → PutsAll old new (trace_header p ++ trace_rows p s scans)
-  pub runs : (n : ℕ) → n ≤ length scans
-      → (text : List ℕ) × (piece : List ℕ) × Runs as_trace p (all_inputs p) s rows n text piece (left_by p (take n scans) s)
+  pub waves : (every : ℕ) → MakesScans (with_scans every as_waves) p s scans rows
+  pub written : (every : ℕ) (t : Standing) (old new : WriteLog) (n : ℕ) → Follows (with_scans every as_trace) p s rows t old new (Ok n)
+      → PutsAll old new (trace_header p ++ trace_rows p s scans)
+  pub runs : (every n : ℕ) → n ≤ length scans
+      → (text : List ℕ) × (piece : List ℕ) × Runs (with_scans every as_trace) p (all_inputs p) s rows n text piece (left_by p (take n scans) s)
 
 -- The text of scans that are in time, from the moment of a state on, is simulated from that state as these scans.
 abbrev pub IsSimulated : Drawing → Type 0

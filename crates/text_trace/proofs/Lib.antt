@@ -6,6 +6,7 @@ mod HeaderWords
 mod Lists
 mod Picked
 mod Plain
+mod SameAt
 mod Scanned
 mod Taking
 mod Whole

@@ -18,7 +18,7 @@ use Rattle.text_trace.specs.declared.fault.SimFault.TheVariants as fault
 use Rattle.text_trace.specs.declared.filling.Filling.{Filling}
 use Rattle.text_trace.specs.Coming.{Comes, IsSound, coming}
 use Rattle.text_trace.specs.Filled.{Numbered, all_fields, filled, filled_after, held_between, in_file, is_number, moment_in, numbered, told_of}
-use Rattle.text_trace.specs.Simulation.{Follows, FollowsEvery}
+use Rattle.text_trace.specs.Simulation.{Follows, FollowsEvery, with_scans}
 use Rattle.text_trace.specs.Steps.{Ends}
 use Rattle.text_trace.specs.Stimulus.{IsHeader, are_bits, input_named}
 use Rattle.text_trace.specs.Trace.{Recorded}
@@ -78,15 +78,15 @@ told_plain recorded p s rows t old new (Err fault.Write) h = refl
 told_plain recorded p s rows t old new (Err fault.Memory) h = refl
 
 ends_every : (recorded : Recorded) (every : ℕ) (p : Drawing) (s : Standing) (rows : List Fields) (t : Standing) (old new : WriteLog) (end : Result ℕ SimFault)
-    → Ends recorded p s (filled every rows) t old new end → FollowsEvery recorded every p s rows t old new end
+    → Ends (with_scans every recorded) p s (filled every rows) t old new end → FollowsEvery recorded every p s rows t old new end
 ends_every recorded (suc n) p s rows t old new end h = h
 ends_every recorded zero p s rows t old new end (r, follows, same) =
     let plain : Follows recorded p s rows t old new r = subst (λ l. Follows recorded p s l t old new r) (plain_fields rows) follows in
     subst (Follows recorded p s rows t old new) (sym (same ∙ told_plain recorded p s rows t old new r plain)) plain
 
 pub ends_by : (recorded : Recorded) (every held : ℕ) (p : Drawing) (s : Standing) (rows : List Fields) (t : Standing) (old new : WriteLog) (end : Result ℕ SimFault) → held ≡ every
-    → Ends recorded p s (filled held rows) t old new end → FollowsEvery recorded every p s rows t old new end
-ends_by recorded every held p s rows t old new end e h = ends_every recorded every p s rows t old new end (subst (λ x. Ends recorded p s (filled x rows) t old new end) e h)
+    → Ends (with_scans every recorded) p s (filled held rows) t old new end → FollowsEvery recorded every p s rows t old new end
+ends_by recorded every held p s rows t old new end e h = ends_every recorded every p s rows t old new end (subst (λ x. Ends (with_scans every recorded) p s (filled x rows) t old new end) e h)
 
 pub every_starved : (recorded : Recorded) (every : ℕ) (p : Drawing) (s : Standing) (rows : List Fields) (old : WriteLog) → FollowsEvery recorded every p s rows s old old (Err fault.Memory)
 every_starved recorded every p s rows old = ends_every recorded every p s rows s old old (Err fault.Memory) (Err fault.Memory, inr (refl, refl), refl)

@@ -8,6 +8,7 @@ use Rattle.scan_cycle.specs.Standing.{Standing}
 use Rattle.io_text.specs.Log.{WriteLog}
 use Rattle.text_trace.specs.declared.fault.SimFault.{SimFault}
 use Rattle.text_trace.specs.declared.fault.SimFault.TheVariants as fault
+use Rattle.text_trace.specs.Simulation.{with_scans}
 use Rattle.text_trace.specs.Steps.{IsScan, ScansTo, StepsTo}
 use Rattle.text_trace.specs.Stimulus.{IsRow, given_by}
 use Rattle.text_trace.specs.Trace.{IsStep, Recorded, inputs_given}
@@ -33,23 +34,23 @@ given_image n columns bits items first second values between a b c same filled g
     ∙ given
     ∙ ap (given_by columns bits) (same ∙ kept ∙ filled)
 
-step_of : (recorded : Recorded) (p : Drawing) (columns : List ℕ) (s : Standing) (fields : Fields) (moment : ℕ) (bits inputs : List Bool) (t : Standing) (piece : List ℕ)
-    → IsRow columns fields moment bits → inputs ≡ inputs_given p columns bits s → IsScan recorded p s moment inputs t piece
-    → IsStep recorded p columns s fields t piece
-step_of recorded p columns s fields moment bits inputs t piece row given scan =
-    let same = subst (λ (i : List Bool). IsScan recorded p s moment i t piece) given scan in
+step_of : (recorded : Recorded) (every : ℕ) (p : Drawing) (columns : List ℕ) (done : ℕ) (s : Standing) (fields : Fields) (moment : ℕ) (bits inputs : List Bool) (t : Standing) (piece : List ℕ)
+    → IsRow columns fields moment bits → inputs ≡ inputs_given p columns bits s → IsScan recorded p done s moment inputs t piece
+    → IsStep (with_scans every recorded) p columns done s fields t piece
+step_of recorded every p columns done s fields moment bits inputs t piece row given scan =
+    let same = subst (λ (i : List Bool). IsScan recorded p done s moment i t piece) given scan in
     record { moment = moment; bits = bits; row = row; later = same.later; after = same.after; told = same.told }
 
-pub steps_of : {T : Type 0} (recorded : Recorded) (p : Drawing) (columns : List ℕ) (number : ℕ) (s : Standing) (fields : Fields) (moment : ℕ) (bits inputs : List Bool) (t : Standing)
+pub steps_of : {T : Type 0} (recorded : Recorded) (every : ℕ) (p : Drawing) (columns : List ℕ) (done number : ℕ) (s : Standing) (fields : Fields) (moment : ℕ) (bits inputs : List Bool) (t : Standing)
     (old new : WriteLog) (r : Result T SimFault) → IsRow columns fields moment bits → inputs ≡ inputs_given p columns bits s
-    → ScansTo recorded p number s moment inputs t old new r → StepsTo recorded p columns number s fields t old new r
-steps_of recorded p columns number s fields moment bits inputs t old new (Ok u) row given h =
-    (h.0, step_of recorded p columns s fields moment bits inputs t h.0 row given h.1, h.2)
-steps_of recorded p columns number s fields moment bits inputs t old new (Err (fault.MomentBack n)) row given h = (h.0, (moment, bits, row, h.1), h.2)
-steps_of recorded p columns number s fields moment bits inputs t old new (Err fault.Write) row given h =
-    (h.0, step_of recorded p columns s fields moment bits inputs t h.0 row given h.1, h.2)
-steps_of recorded p columns number s fields moment bits inputs t old new (Err fault.Memory) row given h = h
-steps_of recorded p columns number s fields moment bits inputs t old new _ row given h = absurd h
+    → ScansTo recorded p done number s moment inputs t old new r → StepsTo (with_scans every recorded) p columns done number s fields t old new r
+steps_of recorded every p columns done number s fields moment bits inputs t old new (Ok u) row given h =
+    (h.0, step_of recorded every p columns done s fields moment bits inputs t h.0 row given h.1, h.2)
+steps_of recorded every p columns done number s fields moment bits inputs t old new (Err (fault.MomentBack n)) row given h = (h.0, (moment, bits, row, h.1), h.2)
+steps_of recorded every p columns done number s fields moment bits inputs t old new (Err fault.Write) row given h =
+    (h.0, step_of recorded every p columns done s fields moment bits inputs t h.0 row given h.1, h.2)
+steps_of recorded every p columns done number s fields moment bits inputs t old new (Err fault.Memory) row given h = h
+steps_of recorded every p columns done number s fields moment bits inputs t old new _ row given h = absurd h
 
 -- what holds anyway holds of a good result
 pub on_ok : {T E : Type 0} (r : Result T E) (P : Type 0) → P → OnOk r P

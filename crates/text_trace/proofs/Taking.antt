@@ -89,7 +89,7 @@ runs_within recorded p columns s rows zero text piece t ((r, here, good), none, 
 runs_within recorded p columns s rows (suc k) text piece t (before, last, u, runs, cut, (r, here, step)) = slice_get_within rows (suc k) r here
 
 runs_more : (recorded : Recorded) (p : Drawing) (columns : List ℕ) (s : Standing) (rows : List Fields) (k : ℕ) (text piece more : List ℕ) (t u : Standing) (r : Fields)
-    → Runs recorded p columns s rows k text piece t → slice_get rows (k + 1) ≡ Some r → IsStep recorded p columns t r u more
+    → Runs recorded p columns s rows k text piece t → slice_get rows (k + 1) ≡ Some r → IsStep recorded p columns k t r u more
     → Runs recorded p columns s rows (k + 1) (text ++ piece) more u
 unfolding Runs
 runs_more recorded p columns s rows k text piece more t u r h here step = rw add-one (text, piece, t, h, refl, (r, rw (← add-one) here, step))
@@ -103,7 +103,7 @@ going_none recorded p columns s all r a b f here header wrote left =
 
 pub going_more : (recorded : Recorded) (p : Drawing) (columns : List ℕ) (s t u : Standing) (all : List Numbered) (taken : Taken) (a b c : WriteLog) (number : ℕ) (f g : Filling)
     → IsGoing recorded p columns s all number t a b f → Takes columns (drop (number + 1) all) (Some taken) g
-    → ((fields : Fields) → Gives columns taken.moment (fields_of g.last) fields → (piece : List ℕ) × IsStep recorded p columns t fields u piece × PutsAll b c piece)
+    → ((fields : Fields) → Gives columns taken.moment (fields_of g.last) fields → (piece : List ℕ) × IsStep recorded p columns number t fields u piece × PutsAll b c piece)
     → IsGoing recorded p columns s all (number + 1) u a c g
 going_more recorded p columns s t u all taken a b c number f g h takes steps =
     let (r, at, same, gives, comes) = one_taken columns all (number + 1) taken g takes in
@@ -136,7 +136,7 @@ going_done recorded p columns s t all a b number f g h takes few =
 
 pub going_stops : (recorded : Recorded) (p : Drawing) (columns : List ℕ) (s t u : Standing) (all : List Numbered) (taken : Taken) (stop : SimFault) (a b c : WriteLog) (number : ℕ) (f g : Filling)
     → IsGoing recorded p columns s all number t a b f → number < recorded.most → Takes columns (drop (number + 1) all) (Some taken) g
-    → ((fields : Fields) → Gives columns taken.moment (fields_of g.last) fields → StepsTo {T = ⊤} recorded p columns taken.number t fields u b c (Err stop))
+    → ((fields : Fields) → Gives columns taken.moment (fields_of g.last) fields → StepsTo {T = ⊤} recorded p columns number taken.number t fields u b c (Err stop))
     → Ends recorded p s all u a c (Err stop)
 unfolding was_taken
 going_stops recorded p columns s t u all taken (fault.BadRow n) a b c number f g h few takes steps =

@@ -15,7 +15,7 @@ use Rattle.text_trace.specs.declared.fault.SimFault.TheVariants as fault
 use Rattle.text_trace.specs.declared.recording.Film.{Film}
 use Rattle.text_trace.specs.Filled.{all_fields, filled, told_of}
 use Rattle.text_trace.specs.Stimulus.{IsHeader, IsRow, input_named}
-use Rattle.text_trace.specs.Trace.{IsStep, Recorded, as_trace, as_watched, scanned}
+use Rattle.text_trace.specs.Trace.{IsStep, Recorded, as_rows, as_trace, scanned}
 
 -- There is an element at this place, and it is such a one.
 abbrev pub HasAt : {A : Type 0} → List A → ℕ → (A → Type 0) → Type 0
@@ -30,7 +30,7 @@ Runs recorded p columns s rows zero text piece t =
     HasAt rows 0 (λ r. IsHeader p.decls r columns) × (text ≡ []) × (piece ≡ recorded.head p s) × (t ≡ s)
 Runs recorded p columns s rows (suc k) text piece t =
     (before last : List ℕ) × (u : Standing) × Runs recorded p columns s rows k before last u × (text ≡ before ++ last)
-    × HasAt rows (suc k) (λ r. IsStep recorded p columns u r t piece)
+    × HasAt rows (suc k) (λ r. IsStep recorded p columns k u r t piece)
 
 -- So the first k records lead from s to t, and they are not too many.
 pub record Course (recorded : Recorded) (p : Drawing) (s : Standing) (rows : List Fields) (k : ℕ) (t : Standing) : Type 0 where
@@ -99,12 +99,21 @@ Follows recorded p s rows t old new (Err fault.Memory) = ((k : ℕ) × IsTaken r
 
 -- ---- with scans between the records
 
+-- With a time between two scans, so many ms, a simulation takes 10 ^ 10 records, those in between included.
+abbrev pub most_by : ℕ → ℕ → ℕ
+most_by zero most = most
+most_by (suc n) most = 10000000000
+
+abbrev pub with_scans : ℕ → Recorded → Recorded
+with_scans every recorded = record { most = most_by every recorded.most; head = recorded.head; Tells = recorded.Tells }
+
 -- The same with scans between the records, so many ms apart: it is the simulation of the stimulus that has records for these as well, and a
 -- fault tells the number of the record in the file. Without such a time there are none.
 abbrev pub FollowsEvery : Recorded → ℕ → Drawing → Standing → List Fields → Standing → WriteLog → WriteLog → Result ℕ SimFault → Type 0
 FollowsEvery recorded zero p s rows t old new end = Follows recorded p s rows t old new end
 FollowsEvery recorded (suc n) p s rows t old new end =
-    (r : Result ℕ SimFault) × Follows recorded p s (all_fields (filled (suc n) rows)) t old new r × (end ≡ told_of (filled (suc n) rows) r)
+    (r : Result ℕ SimFault) × Follows (with_scans (suc n) recorded) p s (all_fields (filled (suc n) rows)) t old new r
+    × (end ≡ told_of (filled (suc n) rows) r)
 
 -- ---- by what is recorded
 
@@ -116,16 +125,16 @@ Simulates = Follows as_trace
 abbrev pub SimulatesEvery : ℕ → Drawing → Standing → List Fields → Standing → WriteLog → WriteLog → Result ℕ SimFault → Type 0
 SimulatesEvery = FollowsEvery as_trace
 
--- So one ends that writes a trace with these columns behind the outputs.
-abbrev pub WatchesEvery : List Column → ℕ → Drawing → Standing → List Fields → Standing → WriteLog → WriteLog → Result ℕ SimFault → Type 0
-WatchesEvery columns = FollowsEvery (as_watched columns)
+-- So one ends that writes a trace with these columns behind the outputs: of changes, or whole.
+abbrev pub WatchesEvery : Bool → List Column → ℕ → Drawing → Standing → List Fields → Standing → WriteLog → WriteLog → Result ℕ SimFault → Type 0
+WatchesEvery changes columns = FollowsEvery (as_rows changes columns)
 
 -- A waveform is the start of a dump, and of each scan what it has changed.
 abbrev pub as_waves : Recorded
 as_waves = record {
   most = 1000000;
   head = λ p s. start_text p s;
-  Tells = λ p s moment inputs piece. piece ≡ change_text p s (scanned p s moment inputs);
+  Tells = λ p done s moment inputs piece. piece ≡ change_text p s (scanned p s moment inputs);
 }
 
 -- So one ends that writes a waveform.
@@ -137,7 +146,7 @@ abbrev pub as_film : Film → Recorded
 as_film film = record {
   most = 1000;
   head = λ p s. film_start film.style;
-  Tells = λ p s moment inputs piece. IsDrawn film.style (one_scan film.text.now p s inputs moment film.coil) piece;
+  Tells = λ p done s moment inputs piece. IsDrawn film.style (one_scan film.text.now p s inputs moment film.coil) piece;
 }
 
 -- So one ends that writes a film, which has no scans between the records.

@@ -12,50 +12,57 @@ use Rattle.text_trace.specs.declared.fault.SimFault.TheVariants as fault
 use Rattle.text_trace.specs.declared.recording.Recording.{Recording}
 use Rattle.text_trace.specs.declared.recording.Recording.TheVariants as recordings
 use Rattle.text_trace.specs.declared.filling.Filling.{Filling}
+use Rattle.text_trace.specs.declared.simulation.Run.{Run}
 use Rattle.text_trace.specs.Coming.{Comes}
 use Rattle.text_trace.specs.Filled.{Numbered, all_fields, told_of}
-use Rattle.text_trace.specs.Simulation.{Follows, GoesBack, HasUnknownName, IsBadHeader, IsNoRow, IsUntouched, Runs, as_film, as_waves}
-use Rattle.text_trace.specs.Trace.{IsStep, Recorded, as_trace, as_watched, scanned}
+use Rattle.text_trace.specs.Simulation.{Follows, GoesBack, HasUnknownName, IsBadHeader, IsNoRow, IsUntouched, Runs, as_film, as_waves, with_scans}
+use Rattle.text_trace.specs.Trace.{IsStep, Recorded, as_changes, as_trace, as_watched, scanned}
 
 -- What is recorded, as it was asked for.
 abbrev pub as_asked : Recording → Recorded
 as_asked recordings.Trace = as_trace
 as_asked (recordings.Watched columns) = as_watched columns.now
+as_asked (recordings.Changes columns) = as_changes columns.now
 as_asked (recordings.Film film) = as_film film
 as_asked recordings.Waves = as_waves
+
+-- The same of a run, which may have scans between the records.
+abbrev pub as_run : Run → Recorded
+as_run run = with_scans run.every (as_asked run.recording)
 
 -- A film needs the text of the program.
 abbrev pub CanRecord : Recording → Drawing → Type 0
 CanRecord recordings.Trace p = Unit {0}
 CanRecord (recordings.Watched columns) p = Unit {0}
+CanRecord (recordings.Changes columns) p = Unit {0}
 CanRecord (recordings.Film film) p = IsProgram film.text.now (without_aliases p)
 CanRecord recordings.Waves p = Unit {0}
 
--- One scan at a moment with these inputs leads from s to t, and the piece tells of it.
-pub record IsScan (recorded : Recorded) (p : Drawing) (s : Standing) (moment : ℕ) (inputs : List Bool) (t : Standing) (piece : List ℕ) : Type 0 where
+-- One scan after so many others, at a moment, with these inputs, leads from s to t, and the piece tells of it.
+pub record IsScan (recorded : Recorded) (p : Drawing) (done : ℕ) (s : Standing) (moment : ℕ) (inputs : List Bool) (t : Standing) (piece : List ℕ) : Type 0 where
   pub later : s.moment ≤ moment
   pub after : t ≡ scanned p s moment inputs
-  pub told : recorded.Tells p s moment inputs piece
+  pub told : recorded.Tells p done s moment inputs piece
 
 -- So it was for the record of this number, and the piece was written, or this fault kept it from that.
-abbrev pub ScansTo : {T : Type 0} → Recorded → Drawing → ℕ → Standing → ℕ → List Bool → Standing → WriteLog → WriteLog → Result T SimFault → Type 0
-ScansTo recorded p number s moment inputs t old new (Ok u) = (piece : List ℕ) × IsScan recorded p s moment inputs t piece × PutsAll old new piece
-ScansTo recorded p number s moment inputs t old new (Err (fault.BadRow n)) = ⊥
-ScansTo recorded p number s moment inputs t old new (Err (fault.UnknownName n)) = ⊥
-ScansTo recorded p number s moment inputs t old new (Err (fault.MomentBack n)) = (n ≡ number) × (moment < s.moment) × IsUntouched s t old new
-ScansTo recorded p number s moment inputs t old new (Err (fault.TooLong n)) = ⊥
-ScansTo recorded p number s moment inputs t old new (Err fault.Write) = (piece : List ℕ) × IsScan recorded p s moment inputs t piece × PutsPrefix old new piece
-ScansTo recorded p number s moment inputs t old new (Err fault.Memory) = IsUntouched s t old new
+abbrev pub ScansTo : {T : Type 0} → Recorded → Drawing → ℕ → ℕ → Standing → ℕ → List Bool → Standing → WriteLog → WriteLog → Result T SimFault → Type 0
+ScansTo recorded p done number s moment inputs t old new (Ok u) = (piece : List ℕ) × IsScan recorded p done s moment inputs t piece × PutsAll old new piece
+ScansTo recorded p done number s moment inputs t old new (Err (fault.BadRow n)) = ⊥
+ScansTo recorded p done number s moment inputs t old new (Err (fault.UnknownName n)) = ⊥
+ScansTo recorded p done number s moment inputs t old new (Err (fault.MomentBack n)) = (n ≡ number) × (moment < s.moment) × IsUntouched s t old new
+ScansTo recorded p done number s moment inputs t old new (Err (fault.TooLong n)) = ⊥
+ScansTo recorded p done number s moment inputs t old new (Err fault.Write) = (piece : List ℕ) × IsScan recorded p done s moment inputs t piece × PutsPrefix old new piece
+ScansTo recorded p done number s moment inputs t old new (Err fault.Memory) = IsUntouched s t old new
 
 -- The record of this number was scanned and its piece written, or this fault kept it from that.
-abbrev pub StepsTo : {T : Type 0} → Recorded → Drawing → List ℕ → ℕ → Standing → Fields → Standing → WriteLog → WriteLog → Result T SimFault → Type 0
-StepsTo recorded p columns number s fields t old new (Ok u) = (piece : List ℕ) × IsStep recorded p columns s fields t piece × PutsAll old new piece
-StepsTo recorded p columns number s fields t old new (Err (fault.BadRow n)) = (n ≡ number) × IsNoRow columns fields × IsUntouched s t old new
-StepsTo recorded p columns number s fields t old new (Err (fault.UnknownName n)) = ⊥
-StepsTo recorded p columns number s fields t old new (Err (fault.MomentBack n)) = (n ≡ number) × GoesBack s columns fields × IsUntouched s t old new
-StepsTo recorded p columns number s fields t old new (Err (fault.TooLong n)) = ⊥
-StepsTo recorded p columns number s fields t old new (Err fault.Write) = (piece : List ℕ) × IsStep recorded p columns s fields t piece × PutsPrefix old new piece
-StepsTo recorded p columns number s fields t old new (Err fault.Memory) = IsUntouched s t old new
+abbrev pub StepsTo : {T : Type 0} → Recorded → Drawing → List ℕ → ℕ → ℕ → Standing → Fields → Standing → WriteLog → WriteLog → Result T SimFault → Type 0
+StepsTo recorded p columns done number s fields t old new (Ok u) = (piece : List ℕ) × IsStep recorded p columns done s fields t piece × PutsAll old new piece
+StepsTo recorded p columns done number s fields t old new (Err (fault.BadRow n)) = (n ≡ number) × IsNoRow columns fields × IsUntouched s t old new
+StepsTo recorded p columns done number s fields t old new (Err (fault.UnknownName n)) = ⊥
+StepsTo recorded p columns done number s fields t old new (Err (fault.MomentBack n)) = (n ≡ number) × GoesBack s columns fields × IsUntouched s t old new
+StepsTo recorded p columns done number s fields t old new (Err (fault.TooLong n)) = ⊥
+StepsTo recorded p columns done number s fields t old new (Err fault.Write) = (piece : List ℕ) × IsStep recorded p columns done s fields t piece × PutsPrefix old new piece
+StepsTo recorded p columns done number s fields t old new (Err fault.Memory) = IsUntouched s t old new
 
 -- The header has no columns for this fault, whatever records follow it.
 abbrev pub NoColumns : Declared → Fields → List Fields → SimFault → Type 0

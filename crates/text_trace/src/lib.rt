@@ -1,6 +1,7 @@
 //! The simulation of a stimulus: its trace with the watched variables, a film or a waveform, record by record.
 #![tactic(auto)]
 
+mod alike;
 mod column;
 mod fault;
 mod filling;
@@ -13,5 +14,5 @@ mod watching;
 
 pub use column::Column;
 pub use fault::SimFault;
-pub use recording::Film;
+pub use recording::{Film, Watched};
 pub use simulation::{simulate, simulate_every, watch, write_film, write_waves};

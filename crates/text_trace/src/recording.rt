@@ -13,6 +13,14 @@ pub struct Film<'a> {
     pub coil: Option<usize>,
 }
 
+/// What a trace has beside its outputs, and which of its rows are written.
+#[derive(Clone, Copy)]
+pub struct Watched<'a> {
+    pub columns: &'a [Column],
+    /// Whether of the rows after the first those are written that aren't like the row before but for the moment; otherwise all are.
+    pub changes: bool,
+}
+
 /// What is written of each scan.
 #[derive(Clone, Copy)]
 pub(crate) enum Recording<'a> {
@@ -20,6 +28,8 @@ pub(crate) enum Recording<'a> {
     Trace,
     /// A row of the trace that has these columns after the outputs.
     Watched(&'a [Column]),
+    /// The same of the first scan, and of later ones where something after the moment has changed.
+    Changes(&'a [Column]),
     /// A drawing.
     Film(Film<'a>),
     /// What it has changed.

@@ -16,14 +16,15 @@ ghost use Rattle.text_trace.specs.Coming.{Gives, IsFresh, IsSound};
 ghost use Rattle.text_trace.specs.Filled.{Numbered, filled};
 ghost use Rattle.text_trace.specs.Room.{IsReady};
 ghost use Rattle.text_trace.specs.Simulation.{Films, FollowsEvery, Simulates, SimulatesEvery, WatchesEvery, WavesEvery, as_film, as_waves};
-ghost use Rattle.text_trace.specs.Steps.{CanRecord, Ends, IsGoing, ScansTo, StepsTo, as_asked};
-ghost use Rattle.text_trace.specs.Trace.{as_trace, as_watched};
+ghost use Rattle.text_trace.specs.Steps.{CanRecord, Ends, IsGoing, ScansTo, StepsTo, as_asked, as_run};
+ghost use Rattle.text_trace.specs.Trace.{as_changes, as_trace, as_watched};
 
+use crate::alike::are_alike;
 use crate::column::Column;
 use crate::fault::SimFault;
 use crate::filling::{Filling, Taken, filling_from, take};
 use crate::header::columns;
-use crate::recording::{Film, Recording};
+use crate::recording::{Film, Recording, Watched};
 use crate::row::{fill_inputs, give_columns, inputs};
 use crate::trace::{outputs, write_header, write_row};
 use crate::watching::{write_watched_header, write_watched_row};
@@ -36,8 +37,11 @@ use std::alloc::{AllocError, Global};
 use text_drawing::{Scan, ShowFault, write_drawing, write_film_start};
 use text_vcd::{write_changes, write_start};
 
-/// The most records after the header.
+/// The most records after the header, where there are no scans between them.
 const MOST: u64 = 1_000_000;
+
+/// The most with those in between: a scan every 10 ms for three years.
+const MOST_FILLED: u64 = 10_000_000_000;
 
 /// The most of a film.
 const MOST_DRAWN: u64 = 1_000;
@@ -64,15 +68,20 @@ struct Run<'a> {
     recording: Recording<'a>,
     /// The time between two scans where a record is held, in ms; 0 where each record has one scan.
     every: u64,
+    /// How many scans were made.
+    done: u64,
 }
 
 /// How many scans a stimulus may have: fewer in a film, for each scan is a whole drawing.
-fn most(recording: Recording<'_>) -> u64
-    ensures value { result ≡ (as_asked recording.entry).most }
-    ensures small { result ≤ 1000000 }
+fn most(run: Run<'_>) -> u64
+    ensures value { result ≡ (as_run run.entry).most }
+    ensures small { result ≤ 10000000000 }
 {
-    match recording {
-        Recording::Trace | Recording::Watched(_) | Recording::Waves => MOST,
+    if run.every > 0 {
+        return MOST_FILLED;
+    }
+    match run.recording {
+        Recording::Trace | Recording::Watched(_) | Recording::Changes(_) | Recording::Waves => MOST,
         Recording::Film(_) => MOST_DRAWN,
     }
 }
@@ -91,7 +100,9 @@ fn write_head<W: Sink>(
 {
     match recording {
         Recording::Trace => write_header(program, buffer, writer),
-        Recording::Watched(columns) => write_watched_header(program, columns, buffer, writer),
+        Recording::Watched(columns) | Recording::Changes(columns) => {
+            write_watched_header(program, columns, buffer, writer)
+        }
         Recording::Film(film) => write_film_start(film.style, writer),
         Recording::Waves => write_start(program, state, buffer, writer),
     }
@@ -99,26 +110,26 @@ fn write_head<W: Sink>(
 
 /// Makes a scan with the input image, and writes its row of the trace.
 fn trace_scan<W: Sink>(
-    program: &Program,
+    run: Run<'_>,
     moment: u64,
     number: u64,
     room: &mut Room,
     state: &mut State,
     writer: &mut W,
 ) -> Result<(), SimFault>
-    requires fits { Fits program.now state.old }
-    requires ready { IsReady program.now room.old }
-    requires rest { IsTrueOf (diagram_of program.now) state.old.moment state.old.held room.old.resting }
-    ensures fits { Fits program.now state.new }
-    ensures ready { OnOk result (IsReady program.now room.new) }
-    ensures rest { OnOk result (IsTrueOf (diagram_of program.now) state.new.moment state.new.held room.new.resting) }
-    ensures scans { ScansTo as_trace program.now number state.old moment room.old.image.items state.new (W.log writer.old) (W.log writer.new) result }
+    requires fits { Fits run.program.now state.old }
+    requires ready { IsReady run.program.now room.old }
+    requires rest { IsTrueOf (diagram_of run.program.now) state.old.moment state.old.held room.old.resting }
+    ensures fits { Fits run.entry.program.now state.new }
+    ensures ready { OnOk result (IsReady run.entry.program.now room.new) }
+    ensures rest { OnOk result (IsTrueOf (diagram_of run.entry.program.now) state.new.moment state.new.held room.new.resting) }
+    ensures scans { ScansTo as_trace run.entry.program.now run.entry.done number state.old moment room.old.image.items state.new (W.log writer.old) (W.log writer.new) result }
 {
-    let Ok(()) = scan(program, state, &mut room.resting, &room.image, moment) else {
+    let Ok(()) = scan(run.program, state, &mut room.resting, &room.image, moment) else {
         return Err(SimFault::MomentBack { row: number });
     };
     let (outputs, line) = (&room.outputs, &mut room.line);
-    let Ok(()) = write_row(program, outputs, line, state, &mut room.buffer, writer) else {
+    let Ok(()) = write_row(run.program, outputs, line, state, &mut room.buffer, writer) else {
         return Err(SimFault::Write);
     };
     Ok(())
@@ -126,7 +137,7 @@ fn trace_scan<W: Sink>(
 
 /// Makes a scan with the input image, and writes its row of the trace with the watched columns.
 fn watch_scan<W: Sink>(
-    program: &Program,
+    run: Run<'_>,
     watched: &[Column],
     moment: u64,
     number: u64,
@@ -134,20 +145,20 @@ fn watch_scan<W: Sink>(
     state: &mut State,
     writer: &mut W,
 ) -> Result<(), SimFault>
-    requires fits { Fits program.now state.old }
-    requires ready { IsReady program.now room.old }
-    requires rest { IsTrueOf (diagram_of program.now) state.old.moment state.old.held room.old.resting }
-    ensures fits { Fits program.now state.new }
-    ensures ready { OnOk result (IsReady program.now room.new) }
-    ensures rest { OnOk result (IsTrueOf (diagram_of program.now) state.new.moment state.new.held room.new.resting) }
-    ensures scans { ScansTo (as_watched watched.now) program.now number state.old moment room.old.image.items state.new (W.log writer.old) (W.log writer.new) result }
+    requires fits { Fits run.program.now state.old }
+    requires ready { IsReady run.program.now room.old }
+    requires rest { IsTrueOf (diagram_of run.program.now) state.old.moment state.old.held room.old.resting }
+    ensures fits { Fits run.entry.program.now state.new }
+    ensures ready { OnOk result (IsReady run.entry.program.now room.new) }
+    ensures rest { OnOk result (IsTrueOf (diagram_of run.entry.program.now) state.new.moment state.new.held room.new.resting) }
+    ensures scans { ScansTo (as_watched watched.now) run.entry.program.now run.entry.done number state.old moment room.old.image.items state.new (W.log writer.old) (W.log writer.new) result }
 {
-    match scan(program, state, &mut room.resting, &room.image, moment) {
+    match scan(run.program, state, &mut room.resting, &room.image, moment) {
         Ok(()) => (),
         Err(_) => return Err(SimFault::MomentBack { row: number }),
     }
     let (outputs, line) = (&room.outputs, &mut room.line);
-    let buffer = &mut room.buffer;
+    let (program, buffer) = (run.program, &mut room.buffer);
     let Ok(()) = write_watched_row(program, outputs, line, state, watched, buffer, writer) else {
         return Err(SimFault::Write);
     };
@@ -167,7 +178,7 @@ fn draw_scan<W: Sink>(
     requires drawn { IsProgram film.text.now (without_aliases run.program.now) }
     requires fits { Fits run.program.now state.old }
     ensures fits { Fits run.entry.program.now state.new }
-    ensures scans { ScansTo (as_film film.entry) run.entry.program.now number state.old moment image.now state.new (W.log writer.old) (W.log writer.new) result }
+    ensures scans { ScansTo (as_film film.entry) run.entry.program.now run.entry.done number state.old moment image.now state.new (W.log writer.old) (W.log writer.new) result }
 {
     if moment < state.moment() {
         return Err(SimFault::MomentBack { row: number });
@@ -197,6 +208,39 @@ fn keep(program: &Program, state: &State, before: &mut State)
     before.copy_from(state);
 }
 
+/// Makes a scan with the input image, and writes its row if it is the first one, or not like the row before.
+fn change_scan<W: Sink>(
+    run: Run<'_>,
+    watched: &[Column],
+    moment: u64,
+    number: u64,
+    room: &mut Room,
+    state: &mut State,
+    writer: &mut W,
+) -> Result<(), SimFault>
+    requires fits { Fits run.program.now state.old }
+    requires ready { IsReady run.program.now room.old }
+    requires rest { IsTrueOf (diagram_of run.program.now) state.old.moment state.old.held room.old.resting }
+    ensures fits { Fits run.entry.program.now state.new }
+    ensures ready { OnOk result (IsReady run.entry.program.now room.new) }
+    ensures rest { OnOk result (IsTrueOf (diagram_of run.entry.program.now) state.new.moment state.new.held room.new.resting) }
+    ensures scans { ScansTo (as_changes watched.now) run.entry.program.now run.entry.done number state.old moment room.old.image.items state.new (W.log writer.old) (W.log writer.new) result }
+{
+    keep(run.program, state, &mut room.before);
+    let Ok(()) = scan(run.program, state, &mut room.resting, &room.image, moment) else {
+        return Err(SimFault::MomentBack { row: number });
+    };
+    let (program, outputs, line) = (run.program, &room.outputs, &mut room.line);
+    if run.done > 0 && are_alike(program, outputs, watched, &room.before, state) {
+        return Ok(());
+    }
+    let buffer = &mut room.buffer;
+    let Ok(()) = write_watched_row(program, outputs, line, state, watched, buffer, writer) else {
+        return Err(SimFault::Write);
+    };
+    Ok(())
+}
+
 /// Makes a scan with the input image, and writes what it changed for a waveform.
 fn wave_scan<W: Sink>(
     run: Run<'_>,
@@ -212,7 +256,7 @@ fn wave_scan<W: Sink>(
     ensures fits { Fits run.entry.program.now state.new }
     ensures ready { OnOk result (IsReady run.entry.program.now room.new) }
     ensures rest { OnOk result (IsTrueOf (diagram_of run.entry.program.now) state.new.moment state.new.held room.new.resting) }
-    ensures scans { ScansTo as_waves run.entry.program.now number state.old moment room.old.image.items state.new (W.log writer.old) (W.log writer.new) result }
+    ensures scans { ScansTo as_waves run.entry.program.now run.entry.done number state.old moment room.old.image.items state.new (W.log writer.old) (W.log writer.new) result }
 {
     keep(run.program, state, &mut room.before);
     let Ok(()) = scan(run.program, state, &mut room.resting, &room.image, moment) else {
@@ -244,19 +288,21 @@ fn step<W: Sink>(
     ensures ready { OnOk result (IsReady run.entry.program.now room.new) }
     ensures rest { OnOk result (IsTrueOf (diagram_of run.entry.program.now) state.new.moment state.new.held room.new.resting) }
     ensures steps { (fields : Fields) → Gives columns.now taken.moment (fields_of row.now) fields
-        → StepsTo (as_asked run.entry.recording) run.entry.program.now columns.now taken.number state.old fields state.new (W.log writer.old) (W.log writer.new) result }
+        → StepsTo (as_run run.entry) run.entry.program.now columns.now run.entry.done taken.number state.old fields state.new (W.log writer.old) (W.log writer.new) result }
 {
     let number = taken.number;
     let Some(moment) = taken.moment else {
         return Err(SimFault::BadRow { row: number });
     };
-    let program = run.program;
     fill_inputs(&room.inputs, state, &mut room.image);
     give_columns(columns, row, &mut room.image);
     match run.recording {
-        Recording::Trace => trace_scan(program, moment, number, room, state, writer),
+        Recording::Trace => trace_scan(run, moment, number, room, state, writer),
         Recording::Watched(watched) => {
-            watch_scan(program, watched, moment, number, room, state, writer)
+            watch_scan(run, watched, moment, number, room, state, writer)
+        }
+        Recording::Changes(watched) => {
+            change_scan(run, watched, moment, number, room, state, writer)
         }
         Recording::Film(film) => {
             room.resting.forget();
@@ -284,10 +330,10 @@ fn follow_rows<W: Sink>(
     requires below { All (λ c. c < count_by is_input run.program.now.decls.vars) columns.now }
     ensures fits { Fits run.entry.program.now state.new }
     ensures ends { (all : List Numbered) (log : WriteLog)
-        → IsGoing (as_asked run.entry.recording) run.entry.program.now columns.now state.old all 0 state.old log (W.log writer.old) filling.old
-        → Ends (as_asked run.entry.recording) run.entry.program.now state.old all state.new log (W.log writer.new) result }
+        → IsGoing (as_run run.entry) run.entry.program.now columns.now state.old all 0 state.old log (W.log writer.old) filling.old
+        → Ends (as_run run.entry) run.entry.program.now state.old all state.new log (W.log writer.new) result }
 {
-    let most = most(run.recording);
+    let most = most(run);
     for done in 0..u64::MAX {
         let Ok(found) = take(columns, filling) else {
             return Err(SimFault::Memory);
@@ -298,7 +344,14 @@ fn follow_rows<W: Sink>(
         if done == most {
             return Err(SimFault::TooLong { row: taken.number });
         }
-        if let Err(fault) = step(run, columns, taken, &filling.last, room, state, writer) {
+        let one = Run {
+            alloc: run.alloc,
+            program: run.program,
+            recording: run.recording,
+            every: run.every,
+            done,
+        };
+        if let Err(fault) = step(one, columns, taken, &filling.last, room, state, writer) {
             return Err(fault);
         }
     }
@@ -320,7 +373,7 @@ fn follow_records<W: Sink>(
     requires rest { IsTrueOf (diagram_of run.program.now) state.old.moment state.old.held room.old.resting }
     ensures fits { Fits run.entry.program.now state.new }
     ensures ends { (rows : List Fields) → Left filling.old.records rows
-        → Ends (as_asked run.entry.recording) run.entry.program.now state.old (filled filling.old.every rows) state.new (W.log writer.old) (W.log writer.new) result }
+        → Ends (as_run run.entry) run.entry.program.now state.old (filled filling.old.every rows) state.new (W.log writer.old) (W.log writer.new) result }
 {
     let Ok(found) = next(&mut filling.records, &mut filling.last) else {
         return Err(SimFault::Memory);
@@ -426,19 +479,16 @@ pub fn simulate_every<W: Sink>(
         program,
         recording: Recording::Trace,
         every,
+        done: 0,
     };
     follow(run, state, stimulus, writer)
 }
 
-/// Scans a stimulus as `simulate` does, and writes the trace with these columns after the outputs. Returns how many scans there were.
-///
-/// # Errors
-///
-/// As those of `simulate`.
-pub fn watch<W: Sink>(
+/// Scans a stimulus, and writes the trace with these columns after the outputs.
+fn watch_whole<W: Sink>(
     alloc: Global,
     program: &Program,
-    watched: &[Column],
+    columns: &[Column],
     state: &mut State,
     stimulus: &[u8],
     every: u64,
@@ -446,15 +496,66 @@ pub fn watch<W: Sink>(
 ) -> Result<u64, SimFault>
     requires { Fits program.now state.old }
     ensures fits { Fits program.now state.new }
-    ensures ends { WatchesEvery watched.now every program.now state.old (records_of stimulus.now) state.new (W.log writer.old) (W.log writer.new) result }
+    ensures ends { FollowsEvery (as_watched columns.now) every program.now state.old (records_of stimulus.now) state.new (W.log writer.old) (W.log writer.new) result }
 {
     let run = Run {
         alloc,
         program,
-        recording: Recording::Watched(watched),
+        recording: Recording::Watched(columns),
         every,
+        done: 0,
     };
     follow(run, state, stimulus, writer)
+}
+
+/// Scans a stimulus, and writes the trace of changes with these columns after the outputs.
+fn watch_changes<W: Sink>(
+    alloc: Global,
+    program: &Program,
+    columns: &[Column],
+    state: &mut State,
+    stimulus: &[u8],
+    every: u64,
+    writer: &mut W,
+) -> Result<u64, SimFault>
+    requires { Fits program.now state.old }
+    ensures fits { Fits program.now state.new }
+    ensures ends { FollowsEvery (as_changes columns.now) every program.now state.old (records_of stimulus.now) state.new (W.log writer.old) (W.log writer.new) result }
+{
+    let run = Run {
+        alloc,
+        program,
+        recording: Recording::Changes(columns),
+        every,
+        done: 0,
+    };
+    follow(run, state, stimulus, writer)
+}
+
+/// Scans a stimulus as `simulate` does, and writes the trace with these columns after the outputs: each row, or those of changes. Returns how
+/// many scans there were.
+///
+/// # Errors
+///
+/// As those of `simulate`.
+pub fn watch<W: Sink>(
+    alloc: Global,
+    program: &Program,
+    watched: Watched<'_>,
+    state: &mut State,
+    stimulus: &[u8],
+    every: u64,
+    writer: &mut W,
+) -> Result<u64, SimFault>
+    requires { Fits program.now state.old }
+    ensures fits { Fits program.now state.new }
+    ensures ends { WatchesEvery watched.entry.changes watched.entry.columns.now every program.now state.old (records_of stimulus.now) state.new (W.log writer.old) (W.log writer.new) result }
+{
+    let columns = watched.columns;
+    match watched.changes {
+        true => watch_changes(alloc, program, columns, state, stimulus, every, writer),
+        false => watch_whole(alloc, program, columns, state, stimulus, every, writer),
+    }
 }
 
 /// Scans a stimulus as `simulate` does, and writes a film: the drawings of its scans, at most 1,000. Returns how many there were.
@@ -480,6 +581,7 @@ pub fn write_film<W: Sink>(
         program,
         recording: Recording::Film(film),
         every: 0,
+        done: 0,
     };
     follow(run, state, stimulus, writer)
 }
@@ -507,6 +609,7 @@ pub fn write_waves<W: Sink>(
         program,
         recording: Recording::Waves,
         every,
+        done: 0,
     };
     follow(run, state, stimulus, writer)
 }

@@ -1,6 +1,7 @@
 //! The writing of a trace with columns beside its outputs.
 
-ghost use Rattle.std.specs.Prelude.{◌≡◌, ◌++◌, ◌*◌, [], OnOk, codes, length, map};
+ghost use Rattle.std.specs.Prelude.{◌≡◌, ◌<◌, ◌++◌, ◌*◌, ◌^◌, [], FitsSigned, OnOk, codes, length, map};
+ghost use Rattle.std.specs.Int.{w16};
 ghost use Rattle.scan_signals.specs.Blocks.{elapsed};
 ghost use Rattle.scan_signals.specs.Histories.{cv_of};
 ghost use Rattle.io_text.specs.Text.{after_commas, bit_text};
@@ -100,8 +101,9 @@ pub(crate) fn write_watched_header<W: Sink>(
 }
 
 /// How long a timer has run, at most its preset; 0 where it doesn't run.
-fn elapsed(decls: &Decls, state: &State, inst: usize) -> u64
-    ensures { result ≡ elapsed (preset_of decls.now inst) state.now.moment (stored_of state.now inst) }
+pub(crate) fn elapsed(decls: &Decls, state: &State, inst: usize) -> u64
+    ensures value { result ≡ elapsed (preset_of decls.now inst) state.now.moment (stored_of state.now inst) }
+    ensures small { result < 2 ^ 64 }
 {
     match decls.instances().get(inst) {
         Some(instance) => state.stored(inst).elapsed(instance.preset, state.moment()),
@@ -110,8 +112,9 @@ fn elapsed(decls: &Decls, state: &State, inst: usize) -> u64
 }
 
 /// The count of a counter, and 0 for any other instance.
-fn count_of(stored: Stored) -> i16
-    ensures { result ≡ cv_of stored }
+pub(crate) fn count_of(stored: Stored) -> i16
+    ensures value { result ≡ cv_of stored }
+    ensures small { FitsSigned w16 result }
 {
     match stored {
         Stored::Counter { cv, .. } => cv,

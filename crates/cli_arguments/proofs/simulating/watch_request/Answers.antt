@@ -5,12 +5,12 @@ use Rattle.cli_arguments.proofs.simulating.watch_request.Goals as goal
 
 pub returns-in_err-all-clause-err : goal.returns-in_err-all-clause-err
 returns-in_err-all-clause-err c =
-    let none = no_watch_of_names (rows_of (found_of c.args.found.now)) c.requires.vcd c.requires.watched in
+    let none = no_watch_of_names (rows_of (found_of c.args.found.now)) c.requires.vcd c.requires.other in
     let fault = err_from_is_err_and c.from_residual.result c.from_residual.ensures.1 in
     rw (fault.1, fault.2) (usage_weaker _ none c.in_err-all.ensures.err)
 
 pub returns-in_err-sim-clause-err : goal.returns-in_err-sim-clause-err
 returns-in_err-sim-clause-err c =
-    let none = no_watch (rows_of (found_of c.args.found.now)) c.requires.vcd c.requires.watched in
+    let none = no_watch (rows_of (found_of c.args.found.now)) c.requires.vcd c.requires.other in
     let fault = err_from_is_err_and c.from_residual-in_err-sim.result c.from_residual-in_err-sim.ensures.1 in
     rw (fault.1, fault.2) (usage_weaker _ none c.in_err-sim.ensures.err)

@@ -22,7 +22,7 @@ returns-in-Err-run-clause-failed g c = λ status. inr (inl (
     columns = c.in-Ok.columns.items;
     set = c.requires.set;
     watched = rw (c.decls.ensures, c.deref.ensures.value) at c.in-Ok.ensures.ok;
-    trace = same_watched _ _ _ _ c.args.setting.now.program c.args.setting.now.state c.watch-run.new.state _ _ (g.O.Sink.log c.args.out.now) (g.O.Sink.log c.watch-run.new.writer) (Err c.in-Err-run.fault) c.deref-2.ensures.value c.stimulus.ensures c.unwrap_or-every.ensures c.in-Err-run.ensures.ends;
+    trace = same_watched c.args.request.now.changes _ _ _ _ c.args.setting.now.program c.args.setting.now.state c.watch-run.new.state _ _ (g.O.Sink.log c.args.out.now) (g.O.Sink.log c.watch-run.new.writer) (Err c.in-Err-run.fault) c.deref-2.ensures.value c.stimulus.ensures c.unwrap_or-every.ensures c.in-Err-run.ensures.ends;
     saved = refl;
   },
   c.report-in-Err-run.ensures.line,
@@ -39,7 +39,7 @@ returns-in_default-save_state-clause-failed g c = λ status. inr (inr (
     columns = c.in-Ok.columns.items;
     set = c.requires.set;
     watched = rw (c.decls.ensures, c.deref.ensures.value) at c.in-Ok.ensures.ok;
-    trace = same_watched _ _ _ _ c.args.setting.now.program c.args.setting.now.state c.watch-run.new.state _ _ (g.O.Sink.log c.args.out.now) (g.O.Sink.log c.watch-run.new.writer) (Ok c.in_default.field-0) c.deref-2.ensures.value c.stimulus.ensures c.unwrap_or-every.ensures c.in_default.ensures.ends;
+    trace = same_watched c.args.request.now.changes _ _ _ _ c.args.setting.now.program c.args.setting.now.state c.watch-run.new.state _ _ (g.O.Sink.log c.args.out.now) (g.O.Sink.log c.watch-run.new.writer) (Ok c.in_default.field-0) c.deref-2.ensures.value c.stimulus.ensures c.unwrap_or-every.ensures c.in_default.ensures.ends;
     saved = c.in_default-save_state.ensures.broken;
   },
   c.report-in_default-save_state.ensures.line,
@@ -55,7 +55,7 @@ returns-clause-done g c = λ status. (
     columns = c.in-Ok.columns.items;
     set = c.requires.set;
     watched = rw (c.decls.ensures, c.deref.ensures.value) at c.in-Ok.ensures.ok;
-    trace = same_watched _ _ _ _ c.args.setting.now.program c.args.setting.now.state c.watch-run.new.state _ _ (g.O.Sink.log c.args.out.now) (g.O.Sink.log c.watch-run.new.writer) (Ok c.in_default.field-0) c.deref-2.ensures.value c.stimulus.ensures c.unwrap_or-every.ensures c.in_default.ensures.ends;
+    trace = same_watched c.args.request.now.changes _ _ _ _ c.args.setting.now.program c.args.setting.now.state c.watch-run.new.state _ _ (g.O.Sink.log c.args.out.now) (g.O.Sink.log c.watch-run.new.writer) (Ok c.in_default.field-0) c.deref-2.ensures.value c.stimulus.ensures c.unwrap_or-every.ensures c.in_default.ensures.ends;
     saved = rw c.is_some-saves.ensures at c.in-Ok-save_state.ensures.saved;
   },
   refl,

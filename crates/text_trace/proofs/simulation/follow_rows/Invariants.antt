@@ -6,7 +6,7 @@ use Rattle.io_text.specs.Log.{WriteLog}
 use Rattle.text_trace.specs.Coming.{IsSound}
 use Rattle.text_trace.specs.Filled.{Numbered}
 use Rattle.text_trace.specs.Room.{IsReady}
-use Rattle.text_trace.specs.Steps.{IsGoing, as_asked}
+use Rattle.text_trace.specs.Steps.{IsGoing, as_run}
 use Rattle.text_trace.proofs.simulation.follow_rows.Given as goal
 
 abbrev pub invariant-loop-done : goal.invariant-loop-done
@@ -14,8 +14,8 @@ invariant-loop-done g l =
     IsSound l.columns l.filling
     × Fits l.run.program.now l.state
     × IsReady l.run.program.now l.room
-    × (l.done ≤ (as_asked l.run.recording).most)
+    × (l.done ≤ (as_run l.run).most)
     × (l.filling.number ≤ l.done + 2)
-    × ((all : List Numbered) (log : WriteLog) → IsGoing (as_asked l.run.recording) l.run.program.now l.columns l.fn.state all 0 l.fn.state log (g.W.Sink.log l.fn.writer) l.fn.filling
-    → IsGoing (as_asked l.run.recording) l.run.program.now l.columns l.fn.state all l.done l.state log (g.W.Sink.log l.writer) l.filling)
+    × ((all : List Numbered) (log : WriteLog) → IsGoing (as_run l.run) l.run.program.now l.columns l.fn.state all 0 l.fn.state log (g.W.Sink.log l.fn.writer) l.fn.filling
+    → IsGoing (as_run l.run) l.run.program.now l.columns l.fn.state all l.done l.state log (g.W.Sink.log l.writer) l.filling)
     × IsTrueOf (diagram_of l.run.program.now) l.state.moment l.state.held l.room.resting

@@ -1,0 +1,3 @@
+mod Fields
+mod Places
+mod Regroup
