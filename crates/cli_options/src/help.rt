@@ -244,8 +244,8 @@ pub(crate) const WATCH_ALL_HELP: &str = "Also prints all memory variables and th
 blocks so, in order of declaration; not with
 --watch or --vcd";
 
-pub(crate) const CHANGES_HELP: &str =
-    "Rows only where something else than the moment changes; not with --vcd";
+pub(crate) const CHANGES_HELP: &str = "Rows only where more than the moment changes;
+not with --vcd";
 
 pub(crate) const SAVE_HELP: &str = "The file that gets the state after the last scan";
 

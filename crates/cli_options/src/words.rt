@@ -69,8 +69,8 @@ The status is 2. A subcommand, a file, a coil or a name is missing, an option is
 
 | | Wants | Excludes |
 |---|---|---|
-| `--vcd` |  | `--save`, `--watch`, `--watch-all` |
-| `--watch-all` with `--changes` |  | `--watch` |
+| `--vcd` |  | `--save`, `--watch`, `--watch-all`, `--changes` |
+| `--watch-all` |  | `--watch` |
 
 `ladder never`:
 

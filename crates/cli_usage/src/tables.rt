@@ -92,12 +92,10 @@ const SIM: &[Rule] = &[
             Term::Valued("save"),
             Term::Valued("watch"),
             Term::Flag("watch-all"),
+            Term::Flag("changes"),
         ],
     ),
-    Rule::Excludes(
-        &[Term::Flag("watch-all"), Term::Flag("changes")],
-        &[Term::Valued("watch")],
-    ),
+    Rule::Excludes(&[Term::Flag("watch-all")], &[Term::Valued("watch")]),
 ];
 
 const NEVER: &[Rule] = &[Rule::Excludes(&[Term::Flag("off")], &[Term::Flag("pairs")])];
