@@ -1,5 +1,5 @@
 -- What is said last of a fault of a program text: what is to be changed, by what the text has there.
-use Rattle.std.specs.Prelude.{◌++◌, ◌-◌, ◌*◌, ℕ, Bool, List, [], nat_le, nat_lt, Option, Some, None, if◌then◌else◌, length}
+use Rattle.std.specs.Prelude.{◌-◌, ◌*◌, ℕ, Bool, List, [], nat_lt, Option, Some, None, if◌then◌else◌, length}
 use Rattle.diagram_declarations.specs.declared.fault.VarRule.{VarRule}
 use Rattle.diagram_declarations.specs.declared.fault.VarRule.TheVariants as var
 use Rattle.diagram_program.specs.declared.geometry.TheConstants.{PITCH}

@@ -1,9 +1,9 @@
 -- V1: the byte of a line that may stand in comments only, and what is said of it.
-use Rattle.std.specs.Prelude.{◌++◌, ◌-◌, ◌+◌, ◌==◌, ◌&&◌, ◌||◌, ℕ, zero, suc, Bool, true, false, not, nat_le, List, [], ◌∷◌, Option, Some, None, codes, count_by, decimal, if◌then◌else◌, length, min, option_map, take, drop}
+use Rattle.std.specs.Prelude.{◌++◌, ◌-◌, ◌+◌, ◌==◌, ◌&&◌, ◌||◌, ℕ, Bool, not, nat_le, List, [], ◌∷◌, Option, Some, None, codes, count_by, decimal, if◌then◌else◌, length, min, take, drop}
 use Rattle.std.specs.List.{prefix_len}
 use Rattle.diagram_declarations.specs.Text.{begins, begins_with}
 use Rattle.diagram_program.specs.Bytes.{is_upright, line_feed, space}
-use Rattle.text_reasons.specs.Outside.{behind_lines, is_code, next_within}
+use Rattle.text_reasons.specs.Outside.{is_code, next_within}
 use Rattle.text_reasons.specs.declared.outside.Within.{Within}
 use Rattle.text_reasons.specs.declared.outside.Within.TheVariants as within
 

@@ -1,5 +1,5 @@
 -- G3: the forms of a cell that differ least from what is drawn.
-use Rattle.std.specs.Prelude.{◌++◌, ◌-◌, ◌+◌, ◌/◌, ◌%◌, ◌==◌, ℕ, zero, suc, Bool, nat_lt, List, [], ◌∷◌, Option, Some, None, codes, if◌then◌else◌, is_some, map, take, drop, replicate, slice_index_or}
+use Rattle.std.specs.Prelude.{◌++◌, ◌-◌, ◌+◌, ◌/◌, ◌%◌, ◌==◌, ℕ, zero, suc, nat_lt, List, [], ◌∷◌, Option, Some, None, codes, if◌then◌else◌, is_some, map, take, drop, replicate, slice_index_or}
 use Rattle.diagram_page.specs.Form.{symbols, whole_cells}
 use Rattle.diagram_page.specs.declared.form.Form.{Form}
 use Rattle.diagram_program.specs.Bytes.{dash, space}

@@ -1,9 +1,8 @@
 -- G4: what reaches over the place of a joint. G5: where a vertical link lacks its end.
-use Rattle.std.specs.Prelude.{◌++◌, ◌-◌, ◌+◌, ◌*◌, ◌==◌, ◌||◌, ◌&&◌, ℕ, zero, suc, Bool, List, [], ◌∷◌, codes, decimal, if◌then◌else◌, length, take, drop, slice_get, slice_index_or, unwrap_or}
+use Rattle.std.specs.Prelude.{◌++◌, ◌-◌, ◌+◌, ◌==◌, ℕ, zero, suc, Bool, List, [], codes, decimal, if◌then◌else◌, length, take, drop, slice_get, slice_index_or, unwrap_or}
 use Rattle.std.specs.List.{prefix_len, slice_split, suffix_len}
 use Rattle.diagram_declarations.specs.Text.{begins, is_word_byte}
 use Rattle.diagram_program.specs.Bytes.{is_upright, line_feed, space}
-use Rattle.diagram_program.specs.declared.geometry.TheConstants.{PITCH}
 
 -- the line of a text with this number, counted from 1; an empty one where there is none
 abbrev pub line_in : List ℕ → ℕ → List ℕ

@@ -1,5 +1,5 @@
 -- V3: the word that is no name, and the alias by which it could be kept.
-use Rattle.std.specs.Prelude.{◌++◌, ◌==◌, ◌||◌, ℕ, Bool, false, not, nat_le, nat_lt, List, [], ◌∷◌, codes, decimal, if◌then◌else◌, length, take, drop}
+use Rattle.std.specs.Prelude.{◌++◌, ◌==◌, ◌||◌, ℕ, Bool, false, nat_lt, List, [], ◌∷◌, codes, decimal, if◌then◌else◌, length, take, drop}
 use Rattle.std.specs.List.{after_first, list_any, prefix_len}
 use Rattle.diagram_declarations.specs.declared.limits.TheConstants.{LONGEST_BISTABLE, LONGEST_INSTANCE, LONGEST_NAME}
 use Rattle.diagram_declarations.specs.declared.title.TheConstants.{LONGEST_TITLE}

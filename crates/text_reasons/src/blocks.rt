@@ -1,6 +1,6 @@
 //! G11: which cell is missing below the upper cell of a block, or above its lower cell.
 
-ghost use Rattle.std.specs.Prelude.{◌≡◌, ◌≤◌, ◌^◌, ◌++◌, ◌+◌, ◌-◌, drop, length, take};
+ghost use Rattle.std.specs.Prelude.{◌≡◌, ◌≤◌, ◌^◌, ◌+◌, ◌-◌, drop, take};
 ghost use Rattle.std.specs.Str.{bytes_eq};
 ghost use Rattle.diagram_program.specs.declared.geometry.TheConstants.{CELL, COLUMNS};
 ghost use Rattle.io_text.specs.Buffer.{Sends};

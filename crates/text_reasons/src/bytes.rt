@@ -1,9 +1,9 @@
 //! V1: the byte of a line that may stand in comments only, and what is said of it.
 
-ghost use Rattle.std.specs.Prelude.{◌≡◌, ◌≤◌, ◌++◌, ◌-◌, ◌&&◌, codes, count_by, decimal, length, not, option_map, take, IfSome};
+ghost use Rattle.std.specs.Prelude.{◌≡◌, ◌≤◌, ◌++◌, ◌-◌, ◌&&◌, length, option_map, IfSome};
 ghost use Rattle.std.specs.List.{prefix_len};
 ghost use Rattle.io_text.specs.Buffer.{Sends};
-ghost use Rattle.diagram_declarations.specs.Text.{begins, begins_with};
+ghost use Rattle.diagram_declarations.specs.Text.{begins};
 ghost use Rattle.diagram_program.specs.Bytes.{is_upright};
 ghost use Rattle.text_reasons.specs.Outside.{is_code};
 ghost use Rattle.text_reasons.specs.Bytes.{bad_from, bad_in, bad_text, bad_words, begins_mark, begins_tab, character_len, character_words, goes_on, is_bad, place_in, place_text, tab_words};

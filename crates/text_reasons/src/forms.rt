@@ -1,6 +1,6 @@
 //! G3: the forms of a cell that differ least from what is drawn.
 
-ghost use Rattle.std.specs.Prelude.{◌≡◌, ◌<◌, ◌≤◌, ◌+◌, ◌++◌, ◌==◌, [], IfSome, Some, if◌then◌else◌, slice_index_or};
+ghost use Rattle.std.specs.Prelude.{◌≡◌, ◌<◌, ◌≤◌, ◌+◌, ◌==◌, [], IfSome, Some, if◌then◌else◌, slice_index_or};
 ghost use Rattle.io_text.specs.Buffer.{Sends};
 ghost use Rattle.text_reasons.specs.Forms.{differing, first_near, form_text, forms_at, least, near_from, nearest_text, next_near, quotes, strips, told, told_text, wholes};
 ghost use Rattle.text_reasons.specs.declared.forms.TheConstants.{FORMS, STRIPS, WHOLE};

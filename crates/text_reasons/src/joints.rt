@@ -1,9 +1,9 @@
 //! G4: what reaches over the place of a joint. G5: where a vertical link lacks its end.
 
-ghost use Rattle.std.specs.Prelude.{◌≡◌, ◌<◌, ◌≤◌, ◌++◌, ◌+◌, ◌-◌, codes, IsTrue, length, slice_index_or};
+ghost use Rattle.std.specs.Prelude.{◌≡◌, ◌<◌, ◌≤◌, ◌+◌, ◌-◌, IsTrue, length};
 ghost use Rattle.std.specs.List.{suffix_len};
 ghost use Rattle.diagram_declarations.specs.Text.{begins, is_word_byte};
-ghost use Rattle.diagram_program.specs.Bytes.{is_upright, space};
+ghost use Rattle.diagram_program.specs.Bytes.{is_upright};
 ghost use Rattle.io_text.specs.Buffer.{Sends};
 ghost use Rattle.text_reasons.specs.Joints.{above_text, byte_at, crossing_text, end_text, has_end, is_crossed, is_in_rung, joint_text, line_in, link_text, missing_text, word_across};
 

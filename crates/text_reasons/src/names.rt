@@ -1,11 +1,11 @@
 //! V3: the word that is no name, and the alias by which it could be kept.
 
-ghost use Rattle.std.specs.Prelude.{◌≡◌, ◌≤◌, ◌==◌, ◌++◌, codes, drop, length, take, not};
+ghost use Rattle.std.specs.Prelude.{◌≡◌, ◌≤◌, ◌==◌, length, not};
 ghost use Rattle.std.specs.List.{after_first, list_all, list_any, prefix_len};
 ghost use Rattle.diagram_declarations.specs.Name.{has_name_form, is_name_byte, same_letters};
 ghost use Rattle.diagram_declarations.specs.Text.{is_word_byte};
 ghost use Rattle.io_text.specs.Buffer.{Sends};
-ghost use Rattle.text_reasons.specs.Names.{after_blanks, alias_text, bistables, first_word, formed_text, is_blank, is_formed, keyword_text, length_text, long_text, longest_of, may_be_name, name_text, openings, own_type, timers, type_word, whose, word_at, word_text};
+ghost use Rattle.text_reasons.specs.Names.{after_blanks, alias_text, first_word, formed_text, is_blank, is_formed, keyword_text, length_text, long_text, longest_of, may_be_name, name_text, own_type, type_word, whose, word_at, word_text};
 
 use diagram_declarations::limits::{LONGEST_BISTABLE, LONGEST_INSTANCE, LONGEST_NAME};
 use diagram_declarations::{LONGEST_TITLE, Name, same_letters};

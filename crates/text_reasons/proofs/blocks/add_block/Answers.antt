@@ -1,4 +1,4 @@
-use Rattle.std.proofs.Common.{◌++◌, ◌+◌, ◌-◌, codes, refl}
+use Rattle.std.proofs.Common.{◌+◌, ◌-◌, refl}
 use Rattle.io_text.proofs.Sending.{sends_last}
 use Rattle.text_reasons.specs.Blocks.{above_cell, below_cell, block_text, must_be}
 use Rattle.text_reasons.proofs.Quoting.{first_failed}

@@ -1,4 +1,4 @@
-use Rattle.std.proofs.Common.{◌++◌, ◌+◌, ◌-◌, codes, refl}
+use Rattle.std.proofs.Common.{◌++◌, ◌+◌, ◌-◌, refl}
 use Rattle.io_text.proofs.Sending.{sends_last}
 use Rattle.text_reasons.specs.Bytes.{bad_words, place_text}
 use Rattle.text_reasons.proofs.Quoting.{first_failed}

@@ -1,4 +1,4 @@
-use Rattle.std.proofs.Common.{◌++◌, ◌+◌, ◌-◌, codes, refl}
+use Rattle.std.proofs.Common.{◌+◌, ◌-◌, codes, refl}
 use Rattle.io_text.proofs.Sending.{sends_last}
 use Rattle.text_reasons.specs.Joints.{above_text, end_text, link_text}
 use Rattle.text_reasons.proofs.Quoting.{first_failed}

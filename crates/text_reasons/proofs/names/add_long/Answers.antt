@@ -1,4 +1,4 @@
-use Rattle.std.proofs.Common.{◌++◌, ◌+◌, ◌-◌, refl}
+use Rattle.std.proofs.Common.{◌-◌, refl}
 use Rattle.io_text.proofs.Sending.{sends_last}
 use Rattle.text_reasons.specs.Names.{alias_text, length_text, long_text, own_type, whose}
 use Rattle.text_reasons.proofs.Quoting.{first_failed}

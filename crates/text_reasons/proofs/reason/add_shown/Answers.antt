@@ -1,4 +1,4 @@
-use Rattle.std.proofs.Common.{◌++◌, ◌∙◌, [], ap, codes, option_map, sym}
+use Rattle.std.proofs.Common.{◌++◌, ◌∙◌, ap, codes, option_map, sym}
 use Rattle.io_text.proofs.Sending.{sends_last}
 use Rattle.text_reasons.specs.Reasons.{marks_in, marks_text, near, ruler, shown_text, var_marks}
 use Rattle.text_reasons.proofs.Quoting.{first_failed}
