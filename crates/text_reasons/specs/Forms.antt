@@ -1,5 +1,5 @@
 -- G3: the forms of a cell that differ least from what is drawn.
-use Rattle.std.specs.Prelude.{◌++◌, ◌-◌, ◌+◌, ◌/◌, ◌%◌, ◌==◌, ℕ, zero, suc, nat_lt, List, [], ◌∷◌, Option, Some, None, codes, if◌then◌else◌, is_some, map, take, drop, replicate, slice_index_or}
+use Rattle.std.specs.Prelude.{◌++◌, ◌-◌, ◌+◌, ◌/◌, ◌%◌, ◌==◌, ℕ, zero, suc, nat_lt, List, [], ◌∷◌, Option, Some, None, codes, if◌then◌else◌, is_some, map, min, take, drop, replicate, slice_index_or}
 use Rattle.diagram_page.specs.Form.{symbols, whole_cells}
 use Rattle.diagram_page.specs.declared.form.Form.{Form}
 use Rattle.diagram_program.specs.Bytes.{dash, space}
@@ -28,10 +28,14 @@ abbrev pub differing : List ℕ → List ℕ → ℕ
 differing cell [] = 0
 differing cell (f ∷ fs) = (if slice_index_or cell 0 space == f then 0 else 1) + differing (drop 1 cell) fs
 
+-- In how many a cell and a form differ, where the cell stands in its place, one place too far left, or one too far right.
+abbrev pub apart : List ℕ → List ℕ → ℕ
+apart cell form = min (differing cell form) (min (differing cell (drop 1 form)) (differing form (drop 1 cell)))
+
 -- the first of so many forms, from this one on, that differs in so many characters
 abbrev pub near_from : List ℕ → ℕ → ℕ → ℕ → Option ℕ
 near_from cell distance n zero = None
-near_from cell distance n (suc left) = if differing cell (form_text n) == distance then Some n else near_from cell distance (n + 1) left
+near_from cell distance n (suc left) = if apart cell (form_text n) == distance then Some n else near_from cell distance (n + 1) left
 
 -- the first of all, and the next one behind one
 unfoldable pub first_near : List ℕ → ℕ → Option ℕ
@@ -61,7 +65,9 @@ forms_at cell distance (Some n) =
 
 -- The least number of characters in which a form differs from the cell, if there are three at most.
 abbrev pub least : List ℕ → ℕ
-least cell = if is_some (first_near cell 1) then 1 else (if is_some (first_near cell 2) then 2 else 3)
+least cell =
+    if is_some (first_near cell 0) then 0
+    else (if is_some (first_near cell 1) then 1 else (if is_some (first_near cell 2) then 2 else 3))
 
 abbrev pub nearest_text : List ℕ → List ℕ
 nearest_text cell = forms_at cell (least cell) (first_near cell (least cell))

@@ -2,7 +2,7 @@
 
 ghost use Rattle.std.specs.Prelude.{◌≡◌, ◌<◌, ◌≤◌, ◌+◌, ◌==◌, [], IfSome, Some, if◌then◌else◌, slice_index_or};
 ghost use Rattle.io_text.specs.Buffer.{Sends};
-ghost use Rattle.text_reasons.specs.Forms.{differing, first_near, form_text, forms_at, least, near_from, nearest_text, next_near, quotes, strips, told, told_text, wholes};
+ghost use Rattle.text_reasons.specs.Forms.{apart, differing, first_near, form_text, forms_at, least, near_from, nearest_text, next_near, quotes, strips, told, told_text, wholes};
 ghost use Rattle.text_reasons.specs.declared.forms.TheConstants.{FORMS, STRIPS, WHOLE};
 
 use crate::blocks::{behind, cut};
@@ -114,6 +114,15 @@ fn other(a: u8, b: u8) -> usize
     if a == b { 0 } else { 1 }
 }
 
+/// In how many characters a cell and a form differ, where the cell stands in its place or one place beside it.
+fn apart(cell: &[u8], form: &[u8]) -> usize
+    ensures { result ≡ apart cell.now form.now }
+{
+    let left = differing(cell, behind(form, 1));
+    let right = differing(form, behind(cell, 1));
+    differing(cell, form).min(left.min(right))
+}
+
 /// The first of so many forms, from this one on, that differs in so many characters.
 fn near_from(cell: &[u8], distance: usize, from: usize, count: usize) -> Option<usize>
     requires { from + count ≤ FORMS }
@@ -123,7 +132,7 @@ fn near_from(cell: &[u8], distance: usize, from: usize, count: usize) -> Option<
     let mut n = from;
     let mut left = count;
     while left > 0 {
-        if differing(cell, form_text(n)) == distance {
+        if apart(cell, form_text(n)) == distance {
             return Some(n);
         }
         n += 1;
@@ -157,7 +166,9 @@ fn next_near(cell: &[u8], distance: usize, form: Option<usize>) -> Option<usize>
 fn least(cell: &[u8]) -> usize
     ensures { result ≡ least cell.now }
 {
-    if first_near(cell, 1).is_some() {
+    if first_near(cell, 0).is_some() {
+        0
+    } else if first_near(cell, 1).is_some() {
         1
     } else if first_near(cell, 2).is_some() {
         2
