@@ -22,6 +22,13 @@ no_diff_groups rows grouped none (diff.Progress after upto) h = h.0.0.0 grouped
 no_diff_groups rows grouped none (diff.Held scans every) h = h.0.0 grouped
 no_diff_groups rows grouped none (diff.Groups g) h = none (h.1.0, h.1.1, h.1.2, (h.3.0, (h.3.1, h.3.2)))
 
+-- the form and the order of groups, without groups
+pub no_diff_of_forms : (rows : List Row) → (HasFlag (codes "grouped") rows → ⊥) → (HasForm Table rows → HasOrder Given rows → ⊥) → HasNoDiffForm rows
+no_diff_of_forms rows single forms (diff.Rows after upto) h = forms h.0.0.1 h.0.0.2
+no_diff_of_forms rows single forms (diff.Progress after upto) h = forms h.0.0.1 h.0.0.2
+no_diff_of_forms rows single forms (diff.Held scans every) h = forms h.0.1 h.0.2
+no_diff_of_forms rows single forms (diff.Groups g) h = single h.0
+
 -- one scan, or several
 pub no_diff_of_lasting : (rows : List Row) → (HasFlag (codes "grouped") rows → ⊥) → ((o : Option Lasting) → MayLast o rows → ⊥) → HasNoDiffForm rows
 no_diff_of_lasting rows single none (diff.Rows after upto) h = none None (h.0.1.0, h.0.1.1)

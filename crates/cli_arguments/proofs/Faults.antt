@@ -612,3 +612,11 @@ no_comparison rows none nothing no_runs (Compare r) h = none r h.1
 no_comparison rows none nothing no_runs (Judge r) h = nothing r h.1
 no_comparison rows none nothing no_runs (JudgeRuns r) h = no_runs r h.1
 no_comparison rows none nothing no_runs (Explain names) h = apart (codes "diff") (codes "explain") refl h.0
+
+-- A scan is named with its inputs.
+pub no_named_of_inputs : (rows : List Row) → ((all : Bool) (names : List Text) → HasInputs rows all names → ⊥) → (s : NamedScan) → NamesScan rows s → ⊥
+no_named_of_inputs rows none s h = none s.all_inputs (map string_bytes s.inputs.items) h.3
+
+-- What is said beside a usage fault changes nothing about it.
+pub usage_with : {P : Type 0} (e : WordFault) → P → UsageWhere (Unit {0}) e → UsageWhere P e
+usage_with e p h = usage_weaker e (λ u. p) h

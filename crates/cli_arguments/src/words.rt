@@ -1,13 +1,13 @@
 //! From the arguments of a command line to a request.
 
-ghost use Rattle.std.specs.Prelude.{◌≡◌, ◌⊎◌, [], Bool, codes, IfSome, IsSome, OnOk, IfOk, IfErr, map, string_bytes, None, Some};
+ghost use Rattle.std.specs.Prelude.{◌≡◌, ⊤, [], Bool, codes, IfSome, IsSome, OnOk, IfOk, IfErr, map, string_bytes, None, Some};
 ghost use Rattle.std.specs.List.{list_all};
 ghost use Rattle.clap.specs.Words.{Text, found_of, kind_of, rows_of, subcommand_rows_of};
 ghost use Rattle.clap.specs.Words.{fault_of as clap_fault};
 ghost use Rattle.cli_options.specs.CommandLine.{ladder_app};
 ghost use Rattle.cli_options.specs.Pages.{is_fault_code};
 ghost use Rattle.cli_arguments.specs.Asking.{Asks, AsksBy, AsksNone, HasControl, HasExcluded, HasNoTask, HasTask, Says};
-ghost use Rattle.cli_arguments.specs.Faults.{BreaksIn, IsFaultOf, SaysOf, UsageWhere};
+ghost use Rattle.cli_arguments.specs.Faults.{IsFaultOf, IsTold, SaysOf, TellsUsage, UsageWhere};
 ghost use Rattle.cli_usage.specs.Rules.{Breaks};
 
 use crate::causes::causes_request;
@@ -44,32 +44,47 @@ pub fn read_words(alloc: Global, words: Vec<String>) -> Result<Task, WordFault>
         return Err(WordFault::Memory);
     };
     match command.try_get_matches_from(words.as_slice()) {
-        Ok(matches) => match task_in(alloc, &matches) {
-            Ok(task) => Ok(task),
-            Err(fault) => Err(named(&matches, fault)),
-        },
+        Ok(matches) => told_in(alloc, &matches),
         Err(error) => Err(fault_of(alloc, &error)),
     }
 }
 
-/// A fault of words that `clap` takes, with the rule that they break where one is found.
-fn named(matches: &ArgMatches<'_>, fault: WordFault) -> WordFault
-    ensures { (P : Type 0) → UsageWhere P fault.entry → UsageWhere P result ⊎ (P × BreaksIn (subcommand_rows_of matches.now) result) }
+/// The task of a command line that `clap` has taken; a usage fault has the rule that the words break, where one is found.
+fn told_in(alloc: Global, matches: &ArgMatches<'_>) -> Result<Task, WordFault>
+    ensures ok { IfOk result (λ t. IfSome (subcommand_rows_of matches.now) (λ p. HasTask p.0 p.1 t) × IsSome (subcommand_rows_of matches.now)) }
+    ensures err { IfErr result (IsTold (subcommand_rows_of matches.now)) }
 {
-    match fault {
-        WordFault::Usage => match broken_in(matches) {
-            Some(broken) => WordFault::Broken(broken),
-            None => WordFault::Usage,
-        },
-        other => other,
+    match task_in(alloc, matches) {
+        Ok(task) => Ok(task),
+        Err(WordFault::Usage) => Err(broken_usage(matches)),
+        Err(fault) => Err(fault),
+    }
+}
+
+/// A usage fault, with the rule that the words break where one is found.
+fn broken_usage(matches: &ArgMatches<'_>) -> WordFault
+    ensures { TellsUsage (subcommand_rows_of matches.now) result }
+{
+    match broken_in(matches) {
+        Some(broken) => WordFault::Broken(broken),
+        None => WordFault::Usage,
     }
 }
 
 /// The first rule of the subcommand that the words break.
 fn broken_in(matches: &ArgMatches<'_>) -> Option<Broken>
-    ensures { IfSome result (λ b. IfSome (subcommand_rows_of matches.now) (λ p. Breaks p.1 b) × IsSome (subcommand_rows_of matches.now)) }
+    ensures { IfSome result (λ b. TellsUsage (subcommand_rows_of matches.now) (WordFault.Broken b)) }
 {
-    let (name, found) = matches.subcommand()?;
+    match matches.subcommand() {
+        Some((name, found)) => broken_by(name, found),
+        None => None,
+    }
+}
+
+/// The first rule of a subcommand with this name that the words after it break.
+fn broken_by(name: &str, found: &ArgMatches<'_>) -> Option<Broken>
+    ensures { IfSome result (Breaks (rows_of (found_of found.now))) }
+{
     match broken_rule(rules_of(name), found) {
         Some(broken) => Some(broken),
         None => broken_rule(shared_rules_of(name), found),
@@ -146,7 +161,7 @@ fn explain_task(alloc: Global, found: &ArgMatches<'_>) -> Result<Task, WordFault
 
 /// That one of these words is no code, with the first such word.
 fn no_code(alloc: Global, names: &[String]) -> WordFault
-    ensures { (P : Type 0) → P → UsageWhere P result }
+    ensures { UsageWhere ⊤ result }
 {
     for name in names {
         if !is_code(name) {

@@ -162,10 +162,11 @@ fn tell_stimulus<W: Sink>(alloc: Global, decls: &Decls, text: &[u8], writer: &mu
 fn tell_state<W: Sink>(alloc: Global, decls: &Decls, text: &[u8], writer: &mut W) {
     let mut records = read_from(alloc, text);
     let mut row = ByteRecord::new(alloc);
-    let mut number = 0usize;
-    // Two records come before the first name.
-    while let Ok(true) = next(&mut records, &mut row) {
-        number = number.saturating_add(1);
+    for number in 1..usize::MAX {
+        let Ok(true) = next(&mut records, &mut row) else {
+            break;
+        };
+        // Two records come before the first name.
         if number > 2 && tell_record(decls, number, &row, writer) {
             break;
         }

@@ -6,7 +6,7 @@ use Rattle.clap.specs.declared.error.kind.ErrorKind.TheVariants.{OutOfMemory}
 use Rattle.clap.proofs.OnLiterals.{clap_on_literals}
 use Rattle.cli_options.specs.CommandLine.{ladder_app}
 use Rattle.cli_arguments.specs.Asking.{AsksBy, AsksNothing, HasNoTask, HasTask}
-use Rattle.cli_arguments.specs.Faults.{BreaksIn, IsFaultOf, SaysOf, UsageWhere}
+use Rattle.cli_arguments.specs.Faults.{IsFaultOf, IsTold, SaysOf}
 use Rattle.cli_arguments.specs.declared.request.Task.{Task}
 use Rattle.cli_arguments.specs.declared.request.WordFault.{WordFault}
 use Rattle.cli_arguments.specs.declared.request.WordFault.TheVariants.{Broken, Help, Memory, Mistake, NoCode, Usage}
@@ -31,18 +31,17 @@ asks_nothing app words (Some p) same none task asked =
     none task (rw (name, rows) asked.3)
 
 no_request : (app : App) (words : List Text) (o : Option (Text × List Row)) (fault : WordFault) → o ≡ subcommand_of app words
-    → fault_of app words ≡ []
-    → UsageWhere (IfSome o (λ p. HasNoTask p.0 p.1)) fault ⊎ (IfSome o (λ p. HasNoTask p.0 p.1) × BreaksIn o fault) → IsFaultOf app words fault
+    → fault_of app words ≡ [] → IsTold o fault → IsFaultOf app words fault
 no_request app words o Usage same clear (inl none) = inr (clear, asks_nothing app words o same none)
-no_request app words o Usage same clear (inr none) = absurd none.1
+no_request app words o Usage same clear (inr told) = inr (clear, asks_nothing app words o same told.0)
 no_request app words o (Broken b) same clear (inl none) = absurd none
-no_request app words o (Broken b) same clear (inr none) = (clear, asks_nothing app words o same none.0, none.1.0, sym same ∙ none.1.1, none.1.2)
+no_request app words o (Broken b) same clear (inr told) = (clear, asks_nothing app words o same told.0, (told.1.0, sym same ∙ told.1.1, told.1.2))
 no_request app words o (NoCode word) same clear (inl none) = (clear, asks_nothing app words o same none.0, none.1)
-no_request app words o (NoCode word) same clear (inr none) = absurd none.1
+no_request app words o (NoCode word) same clear (inr told) = absurd told.1
 no_request app words o (Mistake text) same clear (inl none) = absurd none
-no_request app words o (Mistake text) same clear (inr none) = absurd none.1
+no_request app words o (Mistake text) same clear (inr told) = absurd told.1
 no_request app words o (Help text) same clear (inl none) = absurd none
-no_request app words o (Help text) same clear (inr none) = absurd none.1
+no_request app words o (Help text) same clear (inr told) = absurd told.1
 no_request app words o Memory same clear none = tt
 
 refused : (app : App) (words : List Text) (kind : ErrorKind) (fault : WordFault) → (kind ≡ OutOfMemory) ⊎ IsAmong kind (fault_of app words)
@@ -67,16 +66,16 @@ returns-in-Ok-try_get_matches_from-clause-asks c =
     let simple = ap is_simple c.in-Ok.ensures ∙ is_simple_ladder in
     let exact = (c.in-Ok-try_get_matches_from.ensures.matches simple).1 in
     let words : map string_bytes c.as_slice.result.now ≡ map string_bytes c.args.words.items = ap (λ ws. map string_bytes ws) c.as_slice.ensures.value in
-    IfOk-weaker c.task_in.result _ _
+    IfOk-weaker c.told_in.result _ _
     (λ r h. asks_by ladder_app (map string_bytes c.args.words.items) _ r (exact ∙ ap₂ subcommand_of c.in-Ok.ensures words) h.0 h.1)
-    c.task_in.ensures.ok
+    c.told_in.ensures.ok
 
 pub returns-in-Ok-try_get_matches_from-clause-accepted : goal.returns-in-Ok-try_get_matches_from-clause-accepted
 returns-in-Ok-try_get_matches_from-clause-accepted c =
     let none = c.in-Ok-try_get_matches_from.ensures.kinds (ap is_simple_and_free c.in-Ok.ensures ∙ is_free_ladder) in
     let words : map string_bytes c.as_slice.result.now ≡ map string_bytes c.args.words.items = ap (λ ws. map string_bytes ws) c.as_slice.ensures.value in
     let clear : fault_of ladder_app (map string_bytes c.args.words.items) ≡ [] = sym (ap₂ fault_of c.in-Ok.ensures words) ∙ none in
-    IfOk-weaker c.task_in.result _ _ (λ r h. clear) c.task_in.ensures.ok
+    IfOk-weaker c.told_in.result _ _ (λ r h. clear) c.told_in.ensures.ok
 
 pub returns-in-Ok-try_get_matches_from-clause-fault : goal.returns-in-Ok-try_get_matches_from-clause-fault
 returns-in-Ok-try_get_matches_from-clause-fault c =
@@ -85,9 +84,9 @@ returns-in-Ok-try_get_matches_from-clause-fault c =
     let none = c.in-Ok-try_get_matches_from.ensures.kinds (ap is_simple_and_free c.in-Ok.ensures ∙ is_free_ladder) in
     let words : map string_bytes c.as_slice.result.now ≡ map string_bytes c.args.words.items = ap (λ ws. map string_bytes ws) c.as_slice.ensures.value in
     let clear : fault_of ladder_app (map string_bytes c.args.words.items) ≡ [] = sym (ap₂ fault_of c.in-Ok.ensures words) ∙ none in
-    IfErr-weaker c.task_in.result _ _
+    IfErr-weaker c.told_in.result _ _
     (λ fault h. no_request ladder_app (map string_bytes c.args.words.items) _ fault (exact ∙ ap₂ subcommand_of c.in-Ok.ensures words) clear h)
-    c.task_in.ensures.err
+    c.told_in.ensures.err
 
 pub returns-clause-fault : goal.returns-clause-fault
 returns-clause-fault c =
