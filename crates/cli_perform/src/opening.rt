@@ -1,5 +1,8 @@
 //! The files that a request reads.
 
+ghost use Rattle.std.specs.Prelude.{IfOk};
+ghost use Rattle.std.specs.Counts.{IsPrefixLen};
+
 use crate::files::Readers;
 use crate::unread::Opening;
 use cli_arguments::{DiffRequest, Request};
@@ -21,7 +24,9 @@ pub(crate) struct NamedFile<'a, 'p> {
 
 impl NamedFile<'_, '_> {
     /// Opens the file and reads from it; `-` is the standard input.
-    fn open(&mut self, bytes: &mut [u8]) -> io::Result<usize> {
+    fn open(&mut self, bytes: &mut [u8]) -> io::Result<usize>
+        ensures { IfOk result (λ n. IsPrefixLen n bytes.new) }
+    {
         let path = if self.path == "-" {
             STANDARD_INPUT
         } else {

@@ -1,5 +1,7 @@
 //! What a request writes to.
 
+ghost use Rattle.std.specs.Prelude.{◌≤◌, IfOk, length};
+
 use crate::saving::SavedFile;
 use io_text::CountedWriter;
 use std::cell::Cell;
@@ -33,7 +35,9 @@ impl<'a> Standard<'a> {
     }
 
     /// Writes to standard output. A pipe that has ended is kept in mind.
-    fn write_out(&self, bytes: &[u8]) -> io::Result<usize> {
+    fn write_out(&self, bytes: &[u8]) -> io::Result<usize>
+        ensures { IfOk result (λ n. n ≤ length bytes.now) }
+    {
         let written = io::writer(self.rt).write(bytes);
         if let Err(error) = &written {
             if error.kind() == ErrorKind::BrokenPipe {
@@ -44,7 +48,9 @@ impl<'a> Standard<'a> {
     }
 
     /// Writes to standard error. On a terminal nothing is said once the reader of standard output has gone: it was cut short on purpose.
-    fn write_err(&self, bytes: &[u8]) -> io::Result<usize> {
+    fn write_err(&self, bytes: &[u8]) -> io::Result<usize>
+        ensures { IfOk result (λ n. n ≤ length bytes.now) }
+    {
         let mut err = self.rt.stderr();
         if self.is_gone.get() && err.is_terminal() {
             return Ok(bytes.len());
