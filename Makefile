@@ -97,8 +97,11 @@ install-files:
 	install -m 644 README.md LICENSE $(DESTDIR)$(PREFIX)/share/doc/ladder
 	cp -R docs examples $(DESTDIR)$(PREFIX)/share/doc/ladder
 
-# One archive for all systems like this one, and a package of Debian, so that one person proves and others install.
-dist: bin/ladder
+# One archive for all systems like this one, and a package of Debian, so that one person proves and others install. The program that is packed says by
+# `--version` of which commit it is.
+dist:
+	python3 tools/stamp.py
+	$(MAKE) bin/ladder; status=$$?; python3 tools/stamp.py --undo; exit $$status
 	python3 tools/distribution.py bin/ladder bin
 
 clean:

@@ -1,4 +1,4 @@
 //! Of which source the program is built.
 
-/// The commit of the source and the toolchain, as a line: `make dist` writes it anew in the copy of the tree that it builds.
+/// The commit of the source and the toolchain, as a line: `make dist` writes it while it builds.
 pub(crate) const BUILT: &str = "built from a working tree, whose commit isn't recorded\n";
