@@ -1,5 +1,5 @@
 -- G3: the forms of a cell that differ least from what is drawn.
-use Rattle.std.specs.Prelude.{◌++◌, ◌-◌, ◌+◌, ◌/◌, ◌%◌, ◌==◌, ℕ, zero, suc, nat_lt, List, [], ◌∷◌, Option, Some, None, codes, if◌then◌else◌, is_some, map, min, take, drop, replicate, slice_index_or}
+use Rattle.std.specs.Prelude.{◌++◌, ◌-◌, ◌+◌, ◌/◌, ◌%◌, ◌==◌, ℕ, zero, suc, Bool, ◌||◌, nat_lt, List, [], ◌∷◌, Option, Some, None, codes, if◌then◌else◌, is_some, map, nat_le, take, drop, replicate, slice_index_or}
 use Rattle.diagram_page.specs.Form.{symbols, whole_cells}
 use Rattle.diagram_page.specs.declared.form.Form.{Form}
 use Rattle.diagram_program.specs.Bytes.{dash, space}
@@ -28,9 +28,13 @@ abbrev pub differing : List ℕ → List ℕ → ℕ
 differing cell [] = 0
 differing cell (f ∷ fs) = (if slice_index_or cell 0 space == f then 0 else 1) + differing (drop 1 cell) fs
 
--- In how many a cell and a form differ, where the cell stands in its place, one place too far left, or one too far right.
+-- The cell is the form one or two places too far left, or one too far right, as far as it is in its place.
+abbrev pub is_beside : List ℕ → List ℕ → Bool
+is_beside cell form = (differing cell (drop 1 form) == 0) || ((differing cell (drop 2 form) == 0) || (differing form (drop 1 cell) == 0))
+
+-- How far a cell is from a form: in how many characters it differs, if these are three at most; then 4 if it stands beside its place; and else 5.
 abbrev pub apart : List ℕ → List ℕ → ℕ
-apart cell form = min (differing cell form) (min (differing cell (drop 1 form)) (differing form (drop 1 cell)))
+apart cell form = if nat_le (differing cell form) 3 then differing cell form else (if is_beside cell form then 4 else 5)
 
 -- the first of so many forms, from this one on, that differs in so many characters
 abbrev pub near_from : List ℕ → ℕ → ℕ → ℕ → Option ℕ
@@ -63,11 +67,11 @@ forms_at cell distance None = []
 forms_at cell distance (Some n) =
     told_text n (next_near cell distance (Some n)) (next_near cell distance (next_near cell distance (Some n)))
 
--- The least number of characters in which a form differs from the cell, if there are three at most.
+-- How far the nearest form is from the cell.
 abbrev pub least : List ℕ → ℕ
 least cell =
-    if is_some (first_near cell 0) then 0
-    else (if is_some (first_near cell 1) then 1 else (if is_some (first_near cell 2) then 2 else 3))
+    if is_some (first_near cell 1) then 1
+    else (if is_some (first_near cell 2) then 2 else (if is_some (first_near cell 3) then 3 else 4))
 
 abbrev pub nearest_text : List ℕ → List ℕ
 nearest_text cell = forms_at cell (least cell) (first_near cell (least cell))

@@ -2,7 +2,7 @@
 
 ghost use Rattle.std.specs.Prelude.{◌≡◌, ◌<◌, ◌≤◌, ◌+◌, ◌==◌, [], IfSome, Some, if◌then◌else◌, slice_index_or};
 ghost use Rattle.io_text.specs.Buffer.{Sends};
-ghost use Rattle.text_reasons.specs.Forms.{apart, differing, first_near, form_text, forms_at, least, near_from, nearest_text, next_near, quotes, strips, told, told_text, wholes};
+ghost use Rattle.text_reasons.specs.Forms.{apart, differing, first_near, form_text, forms_at, is_beside, least, near_from, nearest_text, next_near, quotes, strips, told, told_text, wholes};
 ghost use Rattle.text_reasons.specs.declared.forms.TheConstants.{FORMS, STRIPS, WHOLE};
 
 use crate::blocks::{behind, cut};
@@ -114,13 +114,27 @@ fn other(a: u8, b: u8) -> usize
     if a == b { 0 } else { 1 }
 }
 
-/// In how many characters a cell and a form differ, where the cell stands in its place or one place beside it.
+/// Whether a cell is the form one or two places too far left, or one too far right.
+fn is_beside(cell: &[u8], form: &[u8]) -> bool
+    ensures { result ≡ is_beside cell.now form.now }
+{
+    differing(cell, behind(form, 1)) == 0
+        || differing(cell, behind(form, 2)) == 0
+        || differing(form, behind(cell, 1)) == 0
+}
+
+/// How far a cell is from a form: in how many characters it differs, and 4 or 5 where these are more than three.
 fn apart(cell: &[u8], form: &[u8]) -> usize
     ensures { result ≡ apart cell.now form.now }
 {
-    let left = differing(cell, behind(form, 1));
-    let right = differing(form, behind(cell, 1));
-    differing(cell, form).min(left.min(right))
+    let count = differing(cell, form);
+    if count <= 3 {
+        count
+    } else if is_beside(cell, form) {
+        4
+    } else {
+        5
+    }
 }
 
 /// The first of so many forms, from this one on, that differs in so many characters.
@@ -162,18 +176,18 @@ fn next_near(cell: &[u8], distance: usize, form: Option<usize>) -> Option<usize>
     }
 }
 
-/// The least number of characters in which a form differs, if there are three at most.
+/// How far the nearest form is.
 fn least(cell: &[u8]) -> usize
     ensures { result ≡ least cell.now }
 {
-    if first_near(cell, 0).is_some() {
-        0
-    } else if first_near(cell, 1).is_some() {
+    if first_near(cell, 1).is_some() {
         1
     } else if first_near(cell, 2).is_some() {
         2
-    } else {
+    } else if first_near(cell, 3).is_some() {
         3
+    } else {
+        4
     }
 }
 
