@@ -151,7 +151,7 @@ def main():
     if not words:
         print("the rules of words are those of the document")
         return
-    tried, wrong = try_all(words[0], found)
+    tried, wrong = try_all(str(pathlib.Path(words[0]).resolve()), found)
     for case in wrong[:10]:
         print(*case)
     print(f"{tried - len(wrong)} of {tried} combinations of options")
