@@ -37,7 +37,7 @@ _ladder() {
     case $subcommand in
         causes) options='--state --at --after --upto --limit --scans --for --every --grouped --terms --st --order --any --off --must --reachable --looks --runs --states --relevant --all-inputs --all-coils --progress --quiet --aliases --why --help' ;;
         show) options='--state --at --number --html --stimulus --coil --all-inputs --aliases --why --help' ;;
-        sim) options='--state --save --every --watch --watch-all --changes --vcd --aliases --why --help' ;;
+        sim) options='--state --save --every --watch --watch-all --changes --expect --progress --vcd --aliases --why --help' ;;
         check) options='--warn --aliases --why --help' ;;
         uses) options='--aliases --why --help' ;;
         import) options='--open --control --hal --why --help' ;;
@@ -57,7 +57,7 @@ _ladder() {
                 ((number++))
                 every=1
                 ;;
-            --state | --new-state | --at | --after | --upto | --limit | --scans | --for | --every | --looks | --order | --number | --stimulus | --coil | --save | --watch | --states | --both | --gap | --control | --hal) ((number++)) ;;
+            --state | --new-state | --at | --after | --upto | --limit | --scans | --for | --every | --looks | --order | --number | --stimulus | --coil | --save | --watch | --expect | --states | --both | --gap | --control | --hal) ((number++)) ;;
             -*) ;;
             *)
                 ((place++))
@@ -68,7 +68,7 @@ _ladder() {
     done
     case $before in
         --save) if [[ $subcommand == diff ]]; then mapfile -t COMPREPLY < <(compgen -d -- "$word"); else mapfile -t COMPREPLY < <(compgen -f -- "$word"); fi ;;
-        --state | --new-state | --stimulus | --hal) mapfile -t COMPREPLY < <(compgen -f -- "$word") ;;
+        --state | --new-state | --stimulus | --expect | --hal) mapfile -t COMPREPLY < <(compgen -f -- "$word") ;;
         --at | --after | --upto | --limit | --scans | --for | --every | --looks | --number | --states | --gap) ;;
         --all-coils) mapfile -t COMPREPLY < <(compgen -d -- "$word") ;;
         --order) mapfile -t COMPREPLY < <(compgen -W 'auto given' -- "$word") ;;

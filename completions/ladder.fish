@@ -7,7 +7,7 @@ function __ladder_places
     for word in $words
         if test $due = 1
             set due 0
-        else if contains -- $word --state --new-state --at --after --upto --limit --scans --for --every --looks --order --number --stimulus --coil --all-coils --save --watch --states --both --gap --control --hal
+        else if contains -- $word --state --new-state --at --after --upto --limit --scans --for --every --looks --order --number --stimulus --coil --all-coils --save --watch --expect --states --both --gap --control --hal
             set due 1
         else if not string match -q -- '-*' $word
             echo $word
@@ -142,6 +142,8 @@ complete -c ladder -n '__ladder_at sim more 0' -l every -x -d 'Also scans betwee
 complete -c ladder -n '__ladder_at sim more 0' -l watch -x -a '(__ladder_names)' -d 'A variable or a block beside the outputs'
 complete -c ladder -n '__ladder_at sim more 0' -l watch-all -d 'All memory variables and blocks beside the outputs'
 complete -c ladder -n '__ladder_at sim more 0' -l changes -d 'Rows only where something else than the moment changes'
+complete -c ladder -n '__ladder_at sim more 0' -l expect -r -F -d 'The first row that differs from this trace'
+complete -c ladder -n '__ladder_at sim more 0' -l progress -d 'Tell how far the simulation is, about once a second'
 complete -c ladder -n '__ladder_at sim more 0' -l vcd -d 'A waveform in place of the trace'
 complete -c ladder -n '__ladder_at sim more 0' -l save -r -F -d 'The file that gets the state after the last scan'
 

@@ -40,6 +40,7 @@ LINES = [
     (["show", "--state"], "mach", ["machine.ld"]),
     (["sim", "machine.ld"], "mach", ["machine.ld"]),
     (["sim", "machine.ld", "--watch"], "", NAMES),
+    (["sim", "--expect"], "mach", ["machine.ld"]),
     (["sim", "machine.ld", "--watch"], "E", ["EStop", "Enabled"]),
     (["show", "aliases.ld"], "", ["X1", "X2", "X3"]),
     (["reach", "machine.ld"], "", COILS),

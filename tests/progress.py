@@ -4,7 +4,7 @@
 Lists of causes, and of what a change of a program changes. A list with `--progress` must have the bytes and the counts of the same list without it, and its lines must ascend. Stopped at any moment, the
 file of its rows must have all rows up to the last number that was told; and what `--after` lists from there on must complete it. So it must
 where the list ends at a number, begins after one, or has a limit, and where the lines or the rows can't be written. On a terminal it tells by
-itself. A search for a run with `--progress` must have the answer of the same search without it, its lines must ascend, and it must end with its first line
+itself. A trace with `--progress` must have the same rows, and a line after each million scans, of changes after each ten million. A search for a run with `--progress` must have the answer of the same search without it, its lines must ascend, and it must end with its first line
 where none can be written.
 """
 import os
@@ -21,6 +21,7 @@ import time
 
 HERE = pathlib.Path(__file__).resolve().parent
 CIRCUIT = HERE.parent / "bench" / "circuits" / "xorand32.ld"
+MOTOR = HERE / "programs" / "motor.ld"
 INPUTS = [f"I{number}" for number in range(1, 33)]
 LINE = re.compile(rb"reached ([0-9]+)\n")
 SEARCH = ["reach", str(HERE.parent / "bench" / "circuits" / "latches7.ld"), "Y"]
@@ -143,6 +144,26 @@ def searched(program):
     return wrong
 
 
+def traced(program, folder):
+    """What is wrong with a trace of 2,500,001 scans, or one of changes of 20,000,001, that tells how far it is, and how many were tried."""
+    stimulus = pathlib.Path(folder) / "stimulus.csv"
+    wrong = []
+    for end, options, each in ((2_500_000, [], 1_000_000), (20_000_000, ["--changes"], 10_000_000)):
+        stimulus.write_text(f"moment,Start\n0,1\n{end},0\n")
+        words = ["sim", "--every", "1", *options, str(MOTOR), str(stimulus)]
+        status, rows, said = run(program, words)
+        other, same, lines = run(program, with_options(words, ["--progress"]))
+        numbers, left = told(lines)
+        if (status, said, other, same, left) != (0, b"", 0, rows, b"") or numbers != list(range(each - 1, end + 1, each)):
+            wrong.append(f"a trace {options}: status {other}, reached {numbers}, {left!r}")
+    wrong += on_terminal(program, words)
+    with open("/dev/full", "wb") as full:
+        done = subprocess.run([program, *with_options(words, ["--progress"])], stdin=subprocess.DEVNULL, stdout=subprocess.PIPE, stderr=full, check=False, timeout=300)
+    if done.returncode != 1 or not rows.startswith(done.stdout):
+        wrong.append(f"a trace whose lines can't be written: status {done.returncode}")
+    return wrong, 4
+
+
 def listed(program, words, stops):
     """What is wrong with a list that tells how far it is, and how many lists were tried."""
     wrong, numbers, rows = alike(program, words, [])
@@ -176,12 +197,14 @@ def main():
     stops = int(sys.argv[2]) if len(sys.argv) > 2 else 4
     wrong, tried = searched(program), 1
     with tempfile.TemporaryDirectory() as folder:
+        more, count = traced(program, folder)
+        wrong, tried = wrong + more, tried + count
         for words in (["causes", str(CIRCUIT), "Y", *INPUTS], ["diff", str(CIRCUIT), changed(folder), "Y", *INPUTS]):
             more, count = listed(program, words, stops)
             wrong, tried = wrong + more, tried + count
     for line in wrong:
         print(line)
-    print(f"{tried - len(wrong)} of {tried} lists and searches that tell how far they are passed")
+    print(f"{tried - len(wrong)} of {tried} lists, traces and searches that tell how far they are passed")
     return 1 if wrong else 0
 
 

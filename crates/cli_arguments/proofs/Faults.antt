@@ -5,7 +5,7 @@ use Rattle.std.proofs.lemmas.Bool.{both_ways}
 use Rattle.std.proofs.lemmas.Slice.Eq.{bytes_eq-Decides}
 use Rattle.clap.specs.Words.{Row, Text, all_of, first_of}
 use Rattle.cli_options.specs.Pages.{is_fault_code}
-use Rattle.cli_arguments.specs.Asking.{Asks, AsksNone, HasCoil, HasControl, HasEvery, HasExcluded, HasFlag, HasForm, HasGrouping, HasInputs, HasLasting, HasNoTask, HasNumber, HasOption, HasOrder, HasPace, HasRuns, HasScans, HasSwitch, HasWatched, IsNamed, IsOfOneState, IsPlain, IsPlainTrace, IsSingle, IsTable, IsWhole, MayGroup, MayHaveLimit, NamesCauses, NamesList, NamesTrace, input_texts, inputs_for}
+use Rattle.cli_arguments.specs.Asking.{Asks, AsksNone, HasCoil, HasControl, HasEvery, HasExcluded, HasFlag, HasForm, HasGrouping, HasInputs, HasLasting, HasNoTask, HasNumber, HasOption, HasOrder, HasPace, HasRuns, HasScans, HasSwitch, HasWatched, IsNamed, IsOfOneState, IsPlain, IsPlainTrace, IsSingle, IsTable, IsWhole, MayGroup, MayHaveLimit, NamesCauses, NamesList, NamesTrace, NamesWatch, input_texts, inputs_for}
 use Rattle.cli_arguments.specs.Parts.{IsOfAnyState, IsOfOneScan, IsOfRecords, IsUncut, MayLast, NamesNoDiff, NamesNoDiffRuns, NamesNoEnd, NamesNoRuns, NamesNoStates, NamesNoVerdicts, NamesScan, Plays}
 use Rattle.cli_arguments.specs.Faults.{UsageWhere}
 use Rattle.cli_arguments.specs.declared.request.GroupFormat.{GroupFormat}
@@ -19,6 +19,7 @@ use Rattle.cli_arguments.specs.declared.simulating.Played.{Played}
 use Rattle.cli_arguments.specs.declared.request.Grouping.{Grouping}
 use Rattle.cli_arguments.specs.declared.request.ShowRequest.{ShowRequest}
 use Rattle.cli_arguments.specs.declared.request.FilmRequest.{FilmRequest}
+use Rattle.cli_arguments.specs.declared.request.ExpectRequest.{ExpectRequest}
 use Rattle.cli_arguments.specs.declared.request.SimRequest.{SimRequest}
 use Rattle.cli_arguments.specs.declared.request.WatchRequest.{WatchRequest}
 use Rattle.cli_arguments.specs.declared.request.WavesRequest.{WavesRequest}
@@ -30,7 +31,7 @@ use Rattle.cli_arguments.specs.declared.request.Pace.{Pace}
 use Rattle.cli_arguments.specs.declared.request.Pace.TheVariants.{AnyMoments, Every}
 use Rattle.cli_arguments.specs.declared.request.ReachRequest.{ReachRequest}
 use Rattle.cli_arguments.specs.declared.lasting.Lasting.TheVariants.{Count, Until}
-use Rattle.cli_arguments.specs.declared.request.Request.TheVariants.{Causes, Check, Film, Groups, Held, Import, Never, Possible, Progress, Reach, Relevant, Show, Sim, Uses, Watch, Waves}
+use Rattle.cli_arguments.specs.declared.request.Request.TheVariants.{Causes, Check, Expect, Film, Groups, Held, Import, Never, Possible, Progress, Reach, Relevant, Show, Sim, Uses, Watch, Waves}
 use Rattle.cli_arguments.specs.declared.request.WordFault.{WordFault}
 use Rattle.cli_arguments.specs.declared.request.WordFault.TheVariants.{Broken, Help, Memory, Mistake, NoCode, Usage}
 use Rattle.cli_arguments.specs.declared.request.Task.TheVariants.{Compare, Explain, Judge, JudgeRuns, Perform, PerformAll}
@@ -73,7 +74,7 @@ module _ (name : List ℕ) (rows : List Row)
     (check : name ≡ codes "check" → (file : String Global) (warns : Bool) → Asks name rows (Check file warns) → ⊥)
     (causes : name ≡ codes "causes" → NoneOfCauses name rows)
     (show : name ≡ codes "show" → ((r : ShowRequest) → Asks name rows (Show r) → ⊥) × ((r : FilmRequest) → Asks name rows (Film r) → ⊥))
-    (sim : name ≡ codes "sim" → ((r : SimRequest) → Asks name rows (Sim r) → ⊥) × ((r : WatchRequest) → Asks name rows (Watch r) → ⊥) × ((r : WavesRequest) → Asks name rows (Waves r) → ⊥))
+    (sim : name ≡ codes "sim" → ((r : SimRequest) → Asks name rows (Sim r) → ⊥) × ((r : WatchRequest) → Asks name rows (Watch r) → ⊥) × ((r : ExpectRequest) → Asks name rows (Expect r) → ⊥) × ((r : WavesRequest) → Asks name rows (Waves r) → ⊥))
     (uses : name ≡ codes "uses" → (file : String Global) → Asks name rows (Uses file) → ⊥)
     (never : name ≡ codes "never" → (r : NeverRequest) → Asks name rows (Never r) → ⊥)
     (reach : name ≡ codes "reach" → (r : ReachRequest) → Asks name rows (Reach r) → ⊥)
@@ -90,7 +91,8 @@ module _ (name : List ℕ) (rows : List Row)
   by_subcommand (Film r) h = (show h.0).1 r h
   by_subcommand (Sim r) h = (sim h.0).0 r h
   by_subcommand (Watch r) h = (sim h.0).1 r h
-  by_subcommand (Waves r) h = (sim h.0).2 r h
+  by_subcommand (Expect r) h = (sim h.0).2 r h
+  by_subcommand (Waves r) h = (sim h.0).3 r h
   by_subcommand (Uses file) h = uses h.0 file h
   by_subcommand (Never r) h = never h.0 r h
   by_subcommand (Reach r) h = reach h.0 r h
@@ -170,11 +172,12 @@ only_show rows show film =
 pub only_sim : (rows : List Row)
     → ((r : SimRequest) → Asks (codes "sim") rows (Sim r) → ⊥)
     → ((r : WatchRequest) → Asks (codes "sim") rows (Watch r) → ⊥)
+    → ((r : ExpectRequest) → Asks (codes "sim") rows (Expect r) → ⊥)
     → ((r : WavesRequest) → Asks (codes "sim") rows (Waves r) → ⊥)
     → AsksNone (codes "sim") rows
-only_sim rows sim watch waves =
+only_sim rows sim watch expect waves =
     by_subcommand (codes "sim") rows (apart (codes "sim") (codes "check") refl) (apart (codes "sim") (codes "causes") refl) (apart (codes "sim") (codes "show") refl)
-    (λ _. (sim, watch, waves)) (apart (codes "sim") (codes "uses") refl) (apart (codes "sim") (codes "never") refl) (apart (codes "sim") (codes "reach") refl) (apart (codes "sim") (codes "import") refl)
+    (λ _. (sim, watch, expect, waves)) (apart (codes "sim") (codes "uses") refl) (apart (codes "sim") (codes "never") refl) (apart (codes "sim") (codes "reach") refl) (apart (codes "sim") (codes "import") refl)
 
 pub no_uses : (rows : List Row) → first_of (codes "file") rows ≡ None → AsksNone (codes "uses") rows
 no_uses rows none =
@@ -442,15 +445,29 @@ no_film_of_waves rows some none =
     only_show rows (λ r h. some h.1) (λ r h. none (record { state = r.state; file = r.file; stimulus = r.stimulus }) (h.5, h.8, h.1))
 
 -- the trace of a stimulus, and what is watched besides
-pub no_trace : (rows : List Row) → (HasFlag (codes "vcd") rows → ⊥) → IsPlainTrace rows → ((r : SimRequest) → NamesTrace rows r → ⊥) → AsksNone (codes "sim") rows
-no_trace rows vcd nothing none = only_sim rows (λ r h. none r h.3) (λ r h. h.2 nothing) (λ r h. vcd h.1)
+pub no_trace : (rows : List Row) → (HasFlag (codes "vcd") rows → ⊥) → HasOption (codes "expect") rows None → IsPlainTrace rows
+    → ((r : SimRequest) → NamesTrace rows r → ⊥) → AsksNone (codes "sim") rows
+no_trace rows vcd unexpected nothing none =
+    only_sim rows (λ r h. none r h.4) (λ r h. h.3 nothing) (λ r h. let some = h.2 in cc) (λ r h. vcd h.1)
 
-pub no_watch : (rows : List Row) → (HasFlag (codes "vcd") rows → ⊥) → (IsPlainTrace rows → ⊥) → ((r : SimRequest) → NamesTrace rows r → ⊥) → AsksNone (codes "sim") rows
-no_watch rows vcd some none = only_sim rows (λ r h. some h.2) (λ r h. none r.sim h.5) (λ r h. vcd h.1)
+pub no_watch : (rows : List Row) → (HasFlag (codes "vcd") rows → ⊥) → HasOption (codes "expect") rows None → (IsPlainTrace rows → ⊥)
+    → ((r : WatchRequest) → NamesWatch rows r → ⊥) → AsksNone (codes "sim") rows
+no_watch rows vcd unexpected some none = only_sim rows (λ r h. some h.3) (λ r h. none r h.4) (λ r h. let given = h.2 in cc) (λ r h. vcd h.1)
 
-pub no_watch_of_names : (rows : List Row) → (HasFlag (codes "vcd") rows → ⊥) → (IsPlainTrace rows → ⊥) → ((all : Bool) (names : List Text) → HasWatched rows all names → ⊥)
-    → AsksNone (codes "sim") rows
-no_watch_of_names rows vcd some none = only_sim rows (λ r h. some h.2) (λ r h. none r.all (map string_bytes r.names.items) h.3) (λ r h. vcd h.1)
+-- the same beside what is expected
+pub no_expect : (rows : List Row) → (HasFlag (codes "vcd") rows → ⊥) → (HasOption (codes "expect") rows None → ⊥)
+    → ((r : WatchRequest) → NamesWatch rows r → ⊥) → AsksNone (codes "sim") rows
+no_expect rows vcd given none = only_sim rows (λ r h. given h.2) (λ r h. given h.2) (λ r h. none r.watch h.3) (λ r h. vcd h.1)
+
+pub no_expect_of_name : (rows : List Row) → (HasFlag (codes "vcd") rows → ⊥) → (HasOption (codes "expect") rows None → ⊥)
+    → first_of (codes "expect") rows ≡ None → AsksNone (codes "sim") rows
+no_expect_of_name rows vcd given none = absurd (given none)
+
+pub no_watch_of_names : (rows : List Row) → ((all : Bool) (names : List Text) → HasWatched rows all names → ⊥) → (r : WatchRequest) → NamesWatch rows r → ⊥
+no_watch_of_names rows none r h = none r.all (map string_bytes r.names.items) h.0
+
+pub no_watch_of_trace : (rows : List Row) → ((r : SimRequest) → NamesTrace rows r → ⊥) → (r : WatchRequest) → NamesWatch rows r → ⊥
+no_watch_of_trace rows none r h = none r.sim h.3
 
 -- The time between two scans is a number.
 pub no_trace_of_every : (rows : List Row) → ((o : Option ℕ) → HasNumber (codes "every") rows o → ⊥) → (r : SimRequest) → NamesTrace rows r → ⊥
@@ -460,20 +477,27 @@ pub no_trace_of_played : (rows : List Row) → ((w : Played) → Plays rows w �
 no_trace_of_played rows none r h = none (record { state = r.state; file = r.file; stimulus = r.stimulus }) (h.0, h.3, h.4)
 
 -- the waveform of a stimulus
+only_waves : (rows : List Row) → HasFlag (codes "vcd") rows → ((r : WavesRequest) → Asks (codes "sim") rows (Waves r) → ⊥) → AsksNone (codes "sim") rows
+only_waves rows vcd waves = only_sim rows (λ r h. h.1 vcd) (λ r h. h.1 vcd) (λ r h. h.1 vcd) waves
+
 pub no_waves_of_played : (rows : List Row) → HasFlag (codes "vcd") rows → ((w : Played) → Plays rows w → ⊥) → AsksNone (codes "sim") rows
 no_waves_of_played rows vcd none =
-    only_sim rows (λ r h. h.1 vcd) (λ r h. h.1 vcd) (λ r h. none (record { state = r.state; file = r.file; stimulus = r.stimulus }) (h.3, h.5, h.6))
+    only_waves rows vcd (λ r h. none (record { state = r.state; file = r.file; stimulus = r.stimulus }) (h.4, h.6, h.7))
 
 pub no_waves_of_every : (rows : List Row) → HasFlag (codes "vcd") rows → ((o : Option ℕ) → HasNumber (codes "every") rows o → ⊥) → AsksNone (codes "sim") rows
-no_waves_of_every rows vcd none = only_sim rows (λ r h. h.1 vcd) (λ r h. h.1 vcd) (λ r h. none r.every h.4)
+no_waves_of_every rows vcd none = only_waves rows vcd (λ r h. none r.every h.5)
 
 -- A state is saved beside a trace.
 pub no_waves_of_save : (rows : List Row) → HasFlag (codes "vcd") rows → (HasOption (codes "save") rows None → ⊥) → AsksNone (codes "sim") rows
-no_waves_of_save rows vcd none = only_sim rows (λ r h. h.1 vcd) (λ r h. h.1 vcd) (λ r h. none h.2)
+no_waves_of_save rows vcd none = only_waves rows vcd (λ r h. none h.2)
 
--- So is what is watched, and which rows are written.
+-- A trace is expected.
+pub no_waves_of_expect : (rows : List Row) → HasFlag (codes "vcd") rows → (HasOption (codes "expect") rows None → ⊥) → AsksNone (codes "sim") rows
+no_waves_of_expect rows vcd none = only_waves rows vcd (λ r h. none h.3)
+
+-- So is what is watched, which rows are written, and how far it is.
 pub no_waves_of_rows : (rows : List Row) → HasFlag (codes "vcd") rows → (IsPlainTrace rows → ⊥) → AsksNone (codes "sim") rows
-no_waves_of_rows rows vcd none = only_sim rows (λ r h. h.1 vcd) (λ r h. h.1 vcd) (λ r h. none h.7)
+no_waves_of_rows rows vcd none = only_waves rows vcd (λ r h. none h.8)
 
 -- what is read of a file that is not named
 pub no_excluded : (rows : List Row) → ((e : Excluded) → HasExcluded e rows → ⊥) → AsksNone (codes "never") rows

@@ -26,12 +26,13 @@ use Rattle.cli_arguments.specs.declared.request.Pace.TheVariants.{AnyMoments, Ev
 use Rattle.cli_arguments.specs.declared.request.CommandLine.{CommandLine}
 use Rattle.cli_arguments.specs.declared.request.ListRequest.{ListRequest}
 use Rattle.cli_arguments.specs.declared.request.Request.{Request}
-use Rattle.cli_arguments.specs.declared.request.Request.TheVariants.{Causes, Check, Film, Groups, Held, Import, Never, Possible, Progress, Reach, Relevant, Show, Sim, Uses, Watch, Waves}
+use Rattle.cli_arguments.specs.declared.request.Request.TheVariants.{Causes, Check, Expect, Film, Groups, Held, Import, Never, Possible, Progress, Reach, Relevant, Show, Sim, Uses, Watch, Waves}
 use Rattle.cli_arguments.specs.declared.request.RunsWanted.{RunsWanted}
 use Rattle.cli_arguments.specs.declared.request.SimRequest.{SimRequest}
 use Rattle.cli_arguments.specs.declared.request.Task.{Task}
 use Rattle.cli_arguments.specs.declared.request.Task.TheVariants.{Compare, Explain, Judge, JudgeRuns, Perform, PerformAll}
 use Rattle.cli_arguments.specs.declared.request.VerdictRequest.{VerdictRequest}
+use Rattle.cli_arguments.specs.declared.request.WatchRequest.{WatchRequest}
 
 abbrev pub HasText : Text → List Row → List ℕ → Type 0
 HasText id rows text = first_of id rows ≡ Some text
@@ -174,9 +175,9 @@ pub record HasWatched (rows : List Row) (all : Bool) (names : List Text) : Type 
   pub named : unwrap_or (all_of (codes "watch") rows) [] ≡ names
   pub either : all ≡ true → names ≡ []
 
--- Nothing is watched beside the outputs, and all rows are written.
+-- Nothing is watched beside the outputs, all rows are written, and nothing tells how far the trace is.
 abbrev pub IsPlainTrace : List Row → Type 0
-IsPlainTrace rows = HasWatched rows false [] × (HasFlag (codes "changes") rows → ⊥)
+IsPlainTrace rows = HasWatched rows false [] × (HasFlag (codes "changes") rows → ⊥) × (HasFlag (codes "progress") rows → ⊥)
 
 -- what a request for the trace of a stimulus names, but for what is watched
 abbrev pub NamesTrace : List Row → SimRequest → Type 0
@@ -185,6 +186,13 @@ NamesTrace rows r = HasOption (codes "state") rows (option_map string_bytes r.st
     × HasNumber (codes "every") rows r.every
     × HasText (codes "file") rows (string_bytes r.file)
     × HasText (codes "stimulus") rows (string_bytes r.stimulus)
+
+-- the same with what is watched, of which rows are written, and whether lines tell how far the trace is
+abbrev pub NamesWatch : List Row → WatchRequest → Type 0
+NamesWatch rows r = HasWatched rows r.all (map string_bytes r.names.items)
+    × HasSwitch (codes "changes") rows r.changes
+    × HasSwitch (codes "progress") rows r.progress
+    × NamesTrace rows r.sim
 
 -- what a request for a list of causes names
 abbrev pub NamesList : List Row → ListRequest → Type 0
@@ -323,17 +331,22 @@ Asks name rows (Film r) = (name ≡ codes "show")
     × HasText (codes "file") rows (string_bytes r.file)
 Asks name rows (Sim r) = (name ≡ codes "sim")
     × (HasFlag (codes "vcd") rows → ⊥)
+    × HasOption (codes "expect") rows None
     × IsPlainTrace rows
     × NamesTrace rows r
 Asks name rows (Watch r) = (name ≡ codes "sim")
     × (HasFlag (codes "vcd") rows → ⊥)
+    × HasOption (codes "expect") rows None
     × (IsPlainTrace rows → ⊥)
-    × HasWatched rows r.all (map string_bytes r.names.items)
-    × HasSwitch (codes "changes") rows r.changes
-    × NamesTrace rows r.sim
+    × NamesWatch rows r
+Asks name rows (Expect r) = (name ≡ codes "sim")
+    × (HasFlag (codes "vcd") rows → ⊥)
+    × HasText (codes "expect") rows (string_bytes r.expected)
+    × NamesWatch rows r.watch
 Asks name rows (Waves r) = (name ≡ codes "sim")
     × HasFlag (codes "vcd") rows
     × HasOption (codes "save") rows None
+    × HasOption (codes "expect") rows None
     × HasOption (codes "state") rows (option_map string_bytes r.state)
     × HasNumber (codes "every") rows r.every
     × HasText (codes "file") rows (string_bytes r.file)

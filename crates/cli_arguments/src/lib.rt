@@ -15,9 +15,9 @@ mod simulating;
 mod words;
 
 pub use request::{
-    AllCoils, CommandLine, DiffForm, DiffRequest, DiffRunsRequest, Excluded, FilmRequest,
-    GroupFormat, Grouping, InputOrder, ListRequest, Medium, NeverRequest, Pace, PossibleRequest,
-    ReachRequest, Request, RunsWanted, ShowRequest, SimRequest, Task, VerdictRequest, WatchRequest,
-    WavesRequest, WordFault,
+    AllCoils, CommandLine, DiffForm, DiffRequest, DiffRunsRequest, Excluded, ExpectRequest,
+    FilmRequest, GroupFormat, Grouping, InputOrder, ListRequest, Medium, NeverRequest, Pace,
+    PossibleRequest, ReachRequest, Request, RunsWanted, ShowRequest, SimRequest, Task,
+    VerdictRequest, WatchRequest, WavesRequest, WordFault,
 };
 pub use words::read_words;

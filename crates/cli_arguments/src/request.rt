@@ -176,7 +176,7 @@ pub struct SimRequest {
     pub stimulus: String,
 }
 
-/// What a request for the trace of a stimulus names where something is watched, or only changes are written.
+/// What a request for the trace of a stimulus names where something is watched, only changes are written, or lines tell how far it is.
 #[derive(Drop)]
 pub struct WatchRequest {
     /// What it names besides.
@@ -187,6 +187,17 @@ pub struct WatchRequest {
     pub names: Vec<String>,
     /// Whether of the rows after the first those are written that aren't like the row before but for the moment.
     pub changes: bool,
+    /// Whether lines tell how far the simulation is.
+    pub progress: bool,
+}
+
+/// What a request names for the comparison of a trace with one that is expected.
+#[derive(Drop)]
+pub struct ExpectRequest {
+    /// What it names for the trace.
+    pub watch: WatchRequest,
+    /// The file of the trace that is expected.
+    pub expected: String,
 }
 
 /// What a request for the waveform of a stimulus names.
@@ -401,6 +412,8 @@ pub enum Request {
     Sim(SimRequest),
     /// The trace of a stimulus, with the variables and instances that are watched beside its outputs, whole or of changes.
     Watch(WatchRequest),
+    /// The trace of a stimulus beside one that is expected: where they differ.
+    Expect(ExpectRequest),
     /// The waveform of a stimulus: what each of its scans changes.
     Waves(WavesRequest),
     /// The cross-reference: where each variable and each instance is drawn.

@@ -44,6 +44,7 @@ fn texts_of(program: Vec<u8>, state: Option<Vec<u8>>, manner: Manner) -> Texts
         program,
         state,
         stimulus: None,
+        trace: None,
         hal: None,
         why: manner.why,
         aliases: manner.aliases,

@@ -30,6 +30,7 @@ abbrev pub kind_word : TextKind → List ℕ
 kind_word kind.Program = codes "program"
 kind_word kind.State = codes "state"
 kind_word kind.Stimulus = codes "stimulus"
+kind_word kind.Trace = codes "trace"
 kind_word kind.Hal = codes "hal"
 
 -- a line that ends with a number

@@ -11,6 +11,7 @@ use Rattle.cli_inputs.specs.declared.reading.TheConstants.{TEXT_LIMIT, STIMULUS_
 -- the largest text of a kind, in bytes
 abbrev pub largest : TextKind → ℕ
 largest kind.Stimulus = STIMULUS_LIMIT
+largest kind.Trace = STIMULUS_LIMIT
 largest other = TEXT_LIMIT
 
 -- This is all that the reader had, and no more than is allowed.

@@ -32,7 +32,7 @@ IsReported = IsReportedBy None
 
 -- no text was read
 abbrev pub unread : Bool → Given
-unread why = record { program = []; state = None; stimulus = None; why = why; aliases = false }
+unread why = record { program = []; state = None; stimulus = None; trace = None; why = why; aliases = false }
 
 -- Status 1, by a fault that the texts and arguments have: nothing was written but what is said of it on `err`.
 pub record Refuses (g : Given) (Has : ToolFault → Type 0) (old new : Logs) : Type 0 where

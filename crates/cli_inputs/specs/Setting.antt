@@ -14,11 +14,12 @@ use Rattle.cli_inputs.specs.declared.fault.ToolFault.{ToolFault}
 use Rattle.cli_inputs.specs.declared.fault.ToolFault.TheVariants as fault
 use Rattle.cli_inputs.specs.declared.texts.Texts.{Texts}
 
--- the bytes of the texts, a state or a stimulus where there is one; whether a fault is explained, and whether aliases are printed
+-- the bytes of the texts, a state, a stimulus or an expected trace where there is one; whether a fault is explained, and whether aliases are printed
 pub record Given : Type 0 where
   pub program : List ℕ
   pub state : Option (List ℕ)
   pub stimulus : Option (List ℕ)
+  pub trace : Option (List ℕ)
   pub why : Bool
   pub aliases : Bool
 
@@ -27,6 +28,7 @@ given_by t = record {
   program = t.program.items;
   state = option_map vec_items t.state;
   stimulus = option_map vec_items t.stimulus;
+  trace = option_map vec_items t.trace;
   why = t.why;
   aliases = t.aliases;
 }
@@ -43,6 +45,10 @@ pub record IsSet (g : Given) (p : Drawing) (s : Standing) : Type 0 where
 -- the records of the stimulus; none where there is no text
 abbrev pub stimulus_records : Given → List Fields
 stimulus_records g = records_of (unwrap_or g.stimulus [])
+
+-- the records of the trace that is expected, likewise
+abbrev pub expected_records : Given → List Fields
+expected_records g = records_of (unwrap_or g.trace [])
 
 -- ---- faults of the program text, and then of the state text
 

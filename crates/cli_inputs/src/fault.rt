@@ -23,6 +23,7 @@ pub enum TextKind {
     Program,
     State,
     Stimulus,
+    Trace,
     Hal,
 }
 
@@ -248,6 +249,7 @@ fn kind_word(kind: TextKind) -> &'static [u8]
         TextKind::Program => b"program",
         TextKind::State => b"state",
         TextKind::Stimulus => b"stimulus",
+        TextKind::Trace => b"trace",
         TextKind::Hal => b"hal",
     }
 }

@@ -11,7 +11,7 @@ use std::alloc::Global;
 /// The largest text of a program, a state or a HAL file, in bytes.
 pub const TEXT_LIMIT: usize = 1_048_576;
 
-/// The largest stimulus, in bytes.
+/// The largest stimulus, and the largest trace that is expected, in bytes.
 pub const STIMULUS_LIMIT: usize = 16_777_216;
 
 /// How many bytes a text of this kind may have.
@@ -20,7 +20,7 @@ fn limit(kind: TextKind) -> usize
 {
     match kind {
         TextKind::Program | TextKind::State | TextKind::Hal => TEXT_LIMIT,
-        TextKind::Stimulus => STIMULUS_LIMIT,
+        TextKind::Stimulus | TextKind::Trace => STIMULUS_LIMIT,
     }
 }
 

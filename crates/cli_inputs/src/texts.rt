@@ -8,6 +8,8 @@ pub struct Texts {
     pub state: Option<Vec<u8>>,
     /// The text of the stimulus, where the request names one; where it is missing, there are no records.
     pub stimulus: Option<Vec<u8>>,
+    /// The text of the trace that is expected, where the request names one; where it is missing, there are no records.
+    pub trace: Option<Vec<u8>>,
     /// The text of a HAL file, where the request names one.
     pub hal: Option<Vec<u8>>,
     /// Whether a fault is explained, after its line.

@@ -3,7 +3,7 @@
 -- `ladder causes --any [--off] [--must] [--reachable] [--looks N] [--runs [--states N] [--state STATE]] [--limit N] [--all-inputs] [--quiet] FILE COIL [INPUT]...`,
 -- each with `--all-coils FOLDER` in place of COIL,
 -- `ladder show [--state STATE] [--at MS] [--number N] [--stimulus STIMULUS] [--html] [--coil COIL] [--all-inputs] FILE [INPUT]...`,
--- `ladder sim [--state STATE] [--save STATE] [--every MS] [--watch NAME]... [--watch-all] [--vcd] FILE STIMULUS`, `ladder uses FILE` and `ladder never [--state STATE] [--off] [--pairs] [--quiet] FILE`, each with `[--aliases] [--why]`;
+-- `ladder sim [--state STATE] [--save STATE] [--every MS] [--watch NAME]... [--watch-all] [--changes] [--expect TRACE] [--progress] [--vcd] FILE STIMULUS`, `ladder uses FILE` and `ladder never [--state STATE] [--off] [--pairs] [--quiet] FILE`, each with `[--aliases] [--why]`;
 -- `ladder reach [--state STATE] [--at MS] [--every MS] [--scans N] [--states N] [--both NAME] [--gap MS] [--progress] [--why] FILE NAME [INPUT]...`;
 -- `ladder diff [--state STATE] [--new-state STATE] [--at MS] [--after N] [--upto N] [--limit N] [--scans N] [--for MS] [--every MS] [--grouped] [--terms] [--st] [--order ORDER] [--all-inputs] [--progress] [--quiet] [--aliases] [--why] OLD NEW COIL [INPUT]...`,
 -- and without COIL `ladder diff [--looks N] [--reachable] [--save FOLDER] [--quiet] [--aliases] [--why] OLD NEW`
@@ -99,7 +99,7 @@ show_app = taking (codes "show") (
 
 abbrev pub sim_app : App
 sim_app = taking (codes "sim") (
-    text_rule (codes "state") ∷ text_rule (codes "save") ∷ positive_rule (codes "every") ∷ texts_rule (codes "watch") ∷ flag_rule (codes "watch-all") ∷ flag_rule (codes "changes") ∷ flag_rule (codes "vcd") ∷ flag_rule (codes "aliases") ∷ flag_rule (codes "why") ∷ place_rule (codes "file") ∷ place_rule (codes "stimulus") ∷ []
+    text_rule (codes "state") ∷ text_rule (codes "save") ∷ positive_rule (codes "every") ∷ texts_rule (codes "watch") ∷ flag_rule (codes "watch-all") ∷ flag_rule (codes "changes") ∷ text_rule (codes "expect") ∷ flag_rule (codes "progress") ∷ flag_rule (codes "vcd") ∷ flag_rule (codes "aliases") ∷ flag_rule (codes "why") ∷ place_rule (codes "file") ∷ place_rule (codes "stimulus") ∷ []
     )
 
 abbrev pub import_app : App

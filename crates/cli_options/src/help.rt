@@ -247,6 +247,13 @@ blocks so, in order of declaration; not with
 pub(crate) const CHANGES_HELP: &str = "Rows only where more than the moment changes;
 not with --vcd";
 
+pub(crate) const EXPECT_HELP: &str = "Prints in place of the trace the first row that
+differs from TRACE, which `ladder sim` has printed,
+with status 1; not with --vcd";
+
+pub(crate) const SIM_PROGRESS_HELP: &str = "Tells on standard error, about once a second, up to
+which moment all scans are made; not with --vcd";
+
 pub(crate) const SAVE_HELP: &str = "The file that gets the state after the last scan";
 
 pub(crate) const HOLD_HELP: &str = "Also scans between the records, with their inputs

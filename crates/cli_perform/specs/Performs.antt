@@ -16,13 +16,14 @@ use Rattle.cli_states.specs.AnyState.{BreaksPossible, CountsPossible, HasPossibl
 use Rattle.cli_states.specs.Never.{BreaksNever, CountsNever, HasNeverFault}
 use Rattle.cli_reach.specs.Asking.{HasReachFault}
 use Rattle.cli_reach.specs.Reaching.{BreaksReach, TellsFound}
+use Rattle.cli_views.specs.Expecting.{BreaksExpected, IsExpected}
 use Rattle.cli_views.specs.Views.{BreaksFilm, BreaksTrace, BreaksWatch, BreaksWaves, Checks, HasFilmFault, HasShowFault, HasWatchFault, IsFilmed, IsTraced, IsWatched, IsWaved, Prints, Shows}
 
 -- how the project of an import is read
 abbrev pub reading_of : Bool → Bool → ReadingOptions
 reading_of opened control_on = record { opened = opened; control_on = control_on }
 
--- Status 0. Only a simulation writes on `save`, and only a list or a search for a run on `err`.
+-- Status 0. Only a simulation writes on `save`; on `err` only a list, a search for a run, or a simulation that tells how far it is.
 abbrev pub IsDone : Request → Given → Logs → Logs → Type 0
 IsDone (Check file warns) g old new = Checks warns g (PutsAll old.out new.out) × (new.save ≡ old.save) × (new.err ≡ old.err)
 IsDone (Causes list after upto) g old new = CountsList g list after upto old.out new.out (PutsAll old.err new.err) × (new.save ≡ old.save)
@@ -37,6 +38,7 @@ IsDone (Show r) g old new = Shows g r (PutsAll old.out new.out) × (new.save ≡
 IsDone (request.Film r) g old new = IsFilmed g r old.out new.out × (new.save ≡ old.save) × (new.err ≡ old.err)
 IsDone (Sim r) g old new = IsTraced g r.every (is_some r.save) old new
 IsDone (request.Watch r) g old new = IsWatched g r old new
+IsDone (request.Expect r) g old new = IsExpected g r old new
 IsDone (request.Waves r) g old new = IsWaved g r.every old.out new.out × (new.save ≡ old.save) × (new.err ≡ old.err)
 IsDone (Uses file) g old new = Prints uses_text g (PutsAll old.out new.out) × (new.save ≡ old.save) × (new.err ≡ old.err)
 IsDone (Import opened control_on file hal) g old new = Carries (reading_of opened control_on) g.program (PutsAll old.out new.out) × (new.save ≡ old.save) × (new.err ≡ old.err)
@@ -56,6 +58,7 @@ HasFault (Show r) g = HasShowFault g r
 HasFault (request.Film r) g = HasFilmFault g r
 HasFault (Sim r) g = HasSettingFault g
 HasFault (request.Watch r) g = HasWatchFault g r
+HasFault (request.Expect r) g = HasWatchFault g r.watch
 HasFault (request.Waves r) g = HasSettingFault g
 HasFault (Uses file) g = HasProgramFault g
 HasFault (Import opened control_on file hal) g = λ f. ⊥
@@ -76,6 +79,7 @@ Breaks (Show r) g old new = Shows g r (PutsPrefix old.out new.out) × (new.save 
 Breaks (request.Film r) g old new = BreaksFilm g r old new × (new.save ≡ old.save)
 Breaks (Sim r) g old new = BreaksTrace g r.every (is_some r.save) old new
 Breaks (request.Watch r) g old new = BreaksWatch g r old new
+Breaks (request.Expect r) g old new = BreaksExpected g r old new
 Breaks (request.Waves r) g old new = BreaksWaves g r.every old new × (new.save ≡ old.save)
 Breaks (Uses file) g old new =
     Prints uses_text g (PutsPrefix old.out new.out) × (new.save ≡ old.save) × IsReported g old.err new.err fault.Write

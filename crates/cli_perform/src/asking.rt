@@ -95,6 +95,7 @@ fn check_for(
         | Request::Film(_)
         | Request::Sim(_)
         | Request::Watch(_)
+        | Request::Expect(_)
         | Request::Waves(_)
         | Request::Uses { .. }
         | Request::Import { .. } => Ok(()),

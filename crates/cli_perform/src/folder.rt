@@ -40,6 +40,7 @@ fn form_of(request: &Request) -> GroupFormat {
         | Request::Film(_)
         | Request::Sim(_)
         | Request::Watch(_)
+        | Request::Expect(_)
         | Request::Waves(_)
         | Request::Uses { .. }
         | Request::Import { .. } => GroupFormat::Table,
@@ -82,6 +83,7 @@ fn state_of(request: &Request) -> Option<&str> {
         | Request::Film(_)
         | Request::Sim(_)
         | Request::Watch(_)
+        | Request::Expect(_)
         | Request::Waves(_)
         | Request::Uses { .. }
         | Request::Import { .. } => None,
@@ -104,6 +106,7 @@ fn program_of(request: &Request) -> &str {
         | Request::Film(_)
         | Request::Sim(_)
         | Request::Watch(_)
+        | Request::Expect(_)
         | Request::Waves(_)
         | Request::Uses { .. }
         | Request::Import { .. } => "",

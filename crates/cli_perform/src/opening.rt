@@ -5,7 +5,7 @@ ghost use Rattle.std.specs.Counts.{IsPrefixLen};
 
 use crate::files::Readers;
 use crate::unread::Opening;
-use cli_arguments::{DiffRequest, Request};
+use cli_arguments::{DiffRequest, ExpectRequest, Request, SimRequest};
 use cli_diff::DiffReaders;
 use io_text::CountedReader;
 use std::fs::{self, File};
@@ -82,6 +82,7 @@ fn alone<'a, 'p>(
         program: reading(opening, program),
         state: None,
         stimulus: None,
+        trace: None,
         hal: None,
     }
 }
@@ -96,6 +97,7 @@ fn from_state<'a, 'p>(
         program: reading(opening, program),
         state: reading_named(opening, state),
         stimulus: None,
+        trace: None,
         hal: None,
     }
 }
@@ -111,6 +113,40 @@ fn simulated<'a, 'p>(
         program: reading(opening, program),
         state: reading_named(opening, state),
         stimulus: Some(reading(opening, stimulus)),
+        trace: None,
+        hal: None,
+    }
+}
+
+/// The readers of the simulation of a trace.
+fn traced<'a, 'p>(
+    opening: &'a Opening<'p>,
+    sim: &'p SimRequest,
+) -> Readers<CountedReader<NamedFile<'a, 'p>>> {
+    simulated(
+        opening,
+        sim.file.as_str(),
+        &sim.state,
+        sim.stimulus.as_str(),
+    )
+}
+
+/// The readers of a simulation, and of the trace that is expected of it.
+fn expected<'a, 'p>(
+    opening: &'a Opening<'p>,
+    request: &'p ExpectRequest,
+) -> Readers<CountedReader<NamedFile<'a, 'p>>> {
+    let Readers {
+        program,
+        state,
+        stimulus,
+        ..
+    } = traced(opening, &request.watch.sim);
+    Readers {
+        program,
+        state,
+        stimulus,
+        trace: Some(reading(opening, request.expected.as_str())),
         hal: None,
     }
 }
@@ -125,6 +161,7 @@ fn imported<'a, 'p>(
         program: reading(opening, project),
         state: None,
         stimulus: None,
+        trace: None,
         hal: reading_named(opening, hal),
     }
 }
@@ -150,36 +187,16 @@ pub(crate) fn readers_of<'a, 'p>(
         Request::Reach(reach) => from_state(opening, reach.file.as_str(), &reach.state),
         Request::Show(show) => from_state(opening, show.file.as_str(), &show.state),
         Request::Film(film) => {
-            simulated(
-                opening,
-                film.file.as_str(),
-                &film.state,
-                film.stimulus.as_str(),
-            )
+            let stimulus = film.stimulus.as_str();
+            simulated(opening, film.file.as_str(), &film.state, stimulus)
         }
         Request::Waves(waves) => {
-            simulated(
-                opening,
-                waves.file.as_str(),
-                &waves.state,
-                waves.stimulus.as_str(),
-            )
+            let stimulus = waves.stimulus.as_str();
+            simulated(opening, waves.file.as_str(), &waves.state, stimulus)
         }
-        Request::Sim(sim) => simulated(
-            opening,
-            sim.file.as_str(),
-            &sim.state,
-            sim.stimulus.as_str(),
-        ),
-        Request::Watch(watched) => {
-            let sim = &watched.sim;
-            simulated(
-                opening,
-                sim.file.as_str(),
-                &sim.state,
-                sim.stimulus.as_str(),
-            )
-        }
+        Request::Sim(sim) => traced(opening, sim),
+        Request::Watch(watched) => traced(opening, &watched.sim),
+        Request::Expect(request) => expected(opening, request),
     }
 }
 

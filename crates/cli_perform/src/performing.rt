@@ -13,7 +13,7 @@ use cli_inputs::Texts;
 use cli_lists::{list_causes, list_groups, list_held, list_progress, list_relevant};
 use cli_reach::reach;
 use cli_states::{list_never, list_possible};
-use cli_views::{About, film, print, show, trace, watch, wave};
+use cli_views::{About, expect, film, print, show, trace, watch, wave};
 use clp_project::ReadingOptions;
 use io_text::Sink;
 use scan_held::Scans;
@@ -97,6 +97,7 @@ pub fn perform<O: Sink, S: Sink, E: Sink>(
         Request::Show(scan) => show(alloc, scan, texts, out, err),
         Request::Film(stimulus) => film(alloc, stimulus, texts, out, err),
         Request::Watch(watched) => watch(alloc, watched, texts, out, save, err),
+        Request::Expect(expected) => expect(alloc, expected, texts, out, save, err),
         Request::Waves(waves) => wave(alloc, texts, waves.every, out, err),
         Request::Import {
             opened,

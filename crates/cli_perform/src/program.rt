@@ -27,7 +27,16 @@ use std::io::{self, IsTerminal};
 
 /// What is said where a state would replace what is read or written beside it.
 const TAKEN: &str =
-    "usage: --save would replace the program, the stimulus, or the file that standard output goes to\n";
+    "usage: --save would replace the program, the stimulus, the expected trace, or the file that standard output goes to\n";
+
+/// Where a simulation saves its last state.
+#[derive(Clone, Copy)]
+struct Saving<'a> {
+    path: &'a str,
+    sim: &'a SimRequest,
+    /// The file of the trace that is expected, where there is one.
+    expected: Option<&'a str>,
+}
 
 /// Reads the arguments and the files that they name, and performs the request over the standard streams. Returns
 /// the status: 0 done, 1 a fault in a file or while running, 2 wrong usage. The first argument is the program's name.
@@ -39,7 +48,7 @@ pub fn run(rt: &HostRuntime, alloc: Global, words: Vec<String>) -> u8
     words.retain(|word| word.as_str() != NEVER);
     match read_words(alloc, words) {
         Ok(task) => {
-            let mut task = seen_on(rt, task);
+            let mut task = seen_on(rt, alloc, task);
             if why {
                 explain_faults(&mut task);
             }
@@ -55,13 +64,13 @@ pub fn run(rt: &HostRuntime, alloc: Global, words: Vec<String>) -> u8
     }
 }
 
-/// A task: a plain list reports how far it is, if that is seen on a terminal and its rows go elsewhere.
-fn seen_on(rt: &HostRuntime, task: Task) -> Task {
+/// A task: a plain list or a simulation reports how far it is, if that is seen on a terminal and its rows go elsewhere.
+fn seen_on(rt: &HostRuntime, alloc: Global, task: Task) -> Task {
     if rt.stdout().is_terminal() || !rt.stderr().is_terminal() {
         return task;
     }
     match task {
-        Task::Perform(line) => Task::Perform(told(line)),
+        Task::Perform(line) => Task::Perform(told(alloc, line)),
         Task::Compare(mut request) => {
             request.form = telling_form(request.form);
             Task::Compare(request)
@@ -70,14 +79,14 @@ fn seen_on(rt: &HostRuntime, task: Task) -> Task {
     }
 }
 
-/// A command line whose list reports how far it is.
-fn told(line: CommandLine) -> CommandLine {
+/// A command line whose list or simulation reports how far it is.
+fn told(alloc: Global, line: CommandLine) -> CommandLine {
     let CommandLine {
         request,
         why,
         aliases,
     } = line;
-    let request = telling(request);
+    let request = telling(alloc, request);
     CommandLine {
         request,
         why,
@@ -162,7 +171,7 @@ fn run_line(rt: &HostRuntime, alloc: Global, line: &CommandLine) -> u8
     ensures { result ≤ 2 }
 {
     match saving_of(&line.request) {
-        Some((path, sim)) => run_saving(rt, alloc, line, sim, path),
+        Some(saving) => run_saving(rt, alloc, line, saving),
         None => {
             let mut save = CountedWriter::new(Stream::Nothing);
             let status = run_with(rt, alloc, line, &mut save);
@@ -211,20 +220,14 @@ fn run_verdicts(rt: &HostRuntime, alloc: Global, request: &VerdictRequest) -> u8
 }
 
 /// Performs a simulation whose state is saved. A file that the request reads but for the state, or standard output, is no place for it.
-fn run_saving(
-    rt: &HostRuntime,
-    alloc: Global,
-    line: &CommandLine,
-    sim: &SimRequest,
-    path: &str,
-) -> u8
+fn run_saving(rt: &HostRuntime, alloc: Global, line: &CommandLine, saving: Saving<'_>) -> u8
     ensures { result ≤ 2 }
 {
-    let Ok(saved) = SavedFile::new(rt, alloc, path) else {
+    let Ok(saved) = SavedFile::new(rt, alloc, saving.path) else {
         report(rt, &ToolFault::Memory);
         return 1;
     };
-    let status = match is_taken(rt, alloc, sim, &saved) {
+    let status = match is_taken(rt, alloc, saving, &saved) {
         Ok(false) => return run_into(rt, alloc, line, saved),
         Ok(true) => refuse_words(rt, line.why, TAKEN),
         Err(_) => {
@@ -248,14 +251,16 @@ fn run_into(rt: &HostRuntime, alloc: Global, line: &CommandLine, saved: SavedFil
     status
 }
 
-/// Whether a state would be saved over the program, the stimulus or what standard output goes to.
+/// Whether a state would be saved over the program, the stimulus, the trace that is expected or what standard output goes to.
 fn is_taken(
     rt: &HostRuntime,
     alloc: Global,
-    sim: &SimRequest,
+    saving: Saving<'_>,
     saved: &SavedFile<'_>,
 ) -> Result<bool, AllocError> {
-    for path in [sim.file.as_str(), sim.stimulus.as_str(), "/dev/stdout"] {
+    let (file, stimulus) = (saving.sim.file.as_str(), saving.sim.stimulus.as_str());
+    let expected = saving.expected.unwrap_or(stimulus);
+    for path in [file, stimulus, expected, "/dev/stdout"] {
         if saved.is_same(alloc, followed(rt, alloc, path)?.as_str())? {
             return Ok(true);
         }
@@ -283,11 +288,12 @@ fn end_saving(rt: &HostRuntime, saved: &Stream<'_>, status: u8) -> u8
     0
 }
 
-/// The file that a state is saved to, and the simulation that saves it, if a request is one.
-fn saving_of(request: &Request) -> Option<(&str, &SimRequest)> {
+/// Where a simulation saves its last state, if a request is one that does.
+fn saving_of(request: &Request) -> Option<Saving<'_>> {
     match request {
-        Request::Sim(sim) => saving_in(sim),
-        Request::Watch(watched) => saving_in(&watched.sim),
+        Request::Sim(sim) => saving_in(sim, None),
+        Request::Watch(watched) => saving_in(&watched.sim, None),
+        Request::Expect(expect) => saving_in(&expect.watch.sim, Some(expect.expected.as_str())),
         Request::Check { .. }
         | Request::Causes { .. }
         | Request::Progress { .. }
@@ -305,10 +311,14 @@ fn saving_of(request: &Request) -> Option<(&str, &SimRequest)> {
     }
 }
 
-/// The path that a simulation saves its last state to, where it does.
-fn saving_in(sim: &SimRequest) -> Option<(&str, &SimRequest)> {
+/// Where a simulation saves its last state, where it does. The file of the trace that is expected of it is read too.
+fn saving_in<'a>(sim: &'a SimRequest, expected: Option<&'a str>) -> Option<Saving<'a>> {
     match &sim.save {
-        Some(path) => Some((path.as_str(), sim)),
+        Some(path) => Some(Saving {
+            path: path.as_str(),
+            sim,
+            expected,
+        }),
         None => None,
     }
 }

@@ -23,6 +23,7 @@ pub fn ask_of(request: &mut Request, coil: String)
         | Request::Film(_)
         | Request::Sim(_)
         | Request::Watch(_)
+        | Request::Expect(_)
         | Request::Waves(_)
         | Request::Uses { .. }
         | Request::Import { .. } => (),
@@ -47,6 +48,7 @@ pub fn is_quiet(request: &Request) -> bool
         | Request::Film(_)
         | Request::Sim(_)
         | Request::Watch(_)
+        | Request::Expect(_)
         | Request::Waves(_)
         | Request::Uses { .. }
         | Request::Import { .. } => false,

@@ -93,6 +93,8 @@ const SIM: &[Rule] = &[
             Term::Valued("watch"),
             Term::Flag("watch-all"),
             Term::Flag("changes"),
+            Term::Valued("expect"),
+            Term::Flag("progress"),
         ],
     ),
     Rule::Excludes(&[Term::Flag("watch-all")], &[Term::Valued("watch")]),

@@ -1,3 +1,4 @@
 pub mod Views
 pub mod About
 pub mod Watched
+pub mod Expecting

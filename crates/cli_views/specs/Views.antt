@@ -1,6 +1,7 @@
 -- How a request ends for a text about the program, the drawing of a scan, or what is written of a simulation: all is written, or a fault stops it.
 use Rattle.std.specs.Prelude.{◌≡◌, ◌⊎◌, ◌++◌, if◌then◌else◌, ℕ, List, Bool, true, false, Option, None, Some, Result, Ok, Err, codes, decimal, [], is_some, length, map, option_map, string_bytes, unwrap_or}
 use Rattle.std.specs.Option.{option_or}
+use Rattle.std.specs.Path.{path_file_name}
 use Rattle.diagram_declarations.specs.Decls.{Declared}
 use Rattle.diagram_program.specs.Program.{Drawing, has_coil}
 use Rattle.diagram_reader.specs.Titled.{HasProgram}
@@ -19,7 +20,7 @@ use Rattle.io_text.specs.Log.{PutsAll, PutsPrefix, WriteLog}
 use Rattle.text_trace.specs.declared.column.Column.{Column}
 use Rattle.text_trace.specs.declared.fault.SimFault.{SimFault}
 use Rattle.text_trace.specs.declared.recording.Film.{Film}
-use Rattle.text_trace.specs.Simulation.{Films, SimulatesEvery, WatchesEvery, WavesEvery}
+use Rattle.text_trace.specs.Simulation.{Films, SimulatesEvery, TellsReached, WatchesEvery, WavesEvery}
 use Rattle.io_text.specs.Text.{lines_text}
 use Rattle.text_warnings.specs.Told.{Told}
 use Rattle.text_warnings.specs.Warnings.{warning_rows}
@@ -143,8 +144,9 @@ BreaksTrace g every saves old new =
 
 -- ---- a simulation with what is watched
 
--- The stimulus was simulated so, with what is watched beside the outputs: the trace was written whole, or that of changes.
-pub record Watches (g : Given) (r : WatchRequest) (out out' : WriteLog) (end : Result ℕ SimFault) (Saved : Drawing → Standing → Type 0) : Type 0 where
+-- The stimulus was simulated so, with what is watched beside the outputs: the trace was written whole, or that of changes; and on a second writer
+-- how far it was, where that is asked for.
+pub record Watches (g : Given) (r : WatchRequest) (out out' err err' : WriteLog) (end : Result ℕ SimFault) (Saved : Drawing → Standing → Type 0) : Type 0 where
   pub program : Drawing
   pub before : Standing
   pub after : Standing
@@ -152,12 +154,13 @@ pub record Watches (g : Given) (r : WatchRequest) (out out' : WriteLog) (end : R
   pub set : IsSet g program before
   pub watched : AreColumns program.decls r.all (map string_bytes r.names.items) columns
   pub trace : WatchesEvery r.changes columns (unwrap_or r.sim.every 0) program before (stimulus_records g) after out out' end
+  pub told : TellsReached r.progress r.changes (unwrap_or r.sim.every 0) program before (stimulus_records g) after err err' end
   pub saved : Saved program after
 
--- Status 0: this trace of the whole stimulus was written.
+-- Status 0: this trace of the whole stimulus was written, and nothing else on `err` than how far it was.
 abbrev pub IsWatched : Given → WatchRequest → Logs → Logs → Type 0
 IsWatched g r old new =
-    (scans : ℕ) × Watches g r old.out new.out (Ok scans) (IsSaved (is_some r.sim.save) old.save new.save) × (new.err ≡ old.err)
+    (scans : ℕ) × Watches g r old.out new.out old.err new.err (Ok scans) (IsSaved (is_some r.sim.save) old.save new.save)
 
 -- The first name that isn't declared, or being out of memory.
 abbrev pub HasNameFault : Declared → List (List ℕ) → ToolFault → Type 0
@@ -173,9 +176,9 @@ HasWatchFault g r f =
 -- Status 1: a fault stopped the simulation, and no state was saved; or the state was to be saved, and `save` failed.
 abbrev pub BreaksWatch : Given → WatchRequest → Logs → Logs → Type 0
 BreaksWatch g r old new =
-    ((f : SimFault) × Watches g r old.out new.out (Err f) (λ p s. new.save ≡ old.save) × IsReported g old.err new.err (fault.Sim f))
-    ⊎ ((scans : ℕ) × (is_some r.sim.save ≡ true) × Watches g r old.out new.out (Ok scans) (λ p s. PutsPrefix old.save new.save (state_text p s))
-    × IsReported g old.err new.err fault.Write)
+    ((f : SimFault) × (told : WriteLog) × Watches g r old.out new.out old.err told (Err f) (λ p s. new.save ≡ old.save) × IsReported g told new.err (fault.Sim f))
+    ⊎ ((scans : ℕ) × (told : WriteLog) × (is_some r.sim.save ≡ true)
+    × Watches g r old.out new.out old.err told (Ok scans) (λ p s. PutsPrefix old.save new.save (state_text p s)) × IsReported g told new.err fault.Write)
 
 -- ---- the waveform of a stimulus
 
@@ -201,9 +204,14 @@ abbrev pub frame_for : Medium → Style
 frame_for medium.Text = style.MarkedFrame
 frame_for medium.Page = style.PageFrame
 
--- The film is that of the program text and of the coil's variable, drawn as it is asked for.
+-- the name of a file, without the folders of its path
+abbrev pub title_for : List ℕ → List ℕ
+title_for path = unwrap_or (path_file_name path) path
+
+-- The film is that of the program text and of the coil's variable, drawn as it is asked for; its title is the name of the program's file.
 pub record IsFilmOf (g : Given) (r : FilmRequest) (coil : Option ℕ) (film : Film) : Type 0 where
   pub drawn : film.style ≡ frame_for r.medium
+  pub titled : film.title.now ≡ title_for (string_bytes r.file)
   pub described : film.text.now ≡ g.program
   pub explained : film.coil ≡ coil
 

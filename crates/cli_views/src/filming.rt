@@ -4,7 +4,7 @@ ghost use Rattle.std.specs.Prelude.{◌≡◌, ◌≤◌, ◌⊎◌};
 ghost use Rattle.scan_cycle.specs.Standing.{Fits};
 ghost use Rattle.io_text.specs.Log.{WriteLog};
 ghost use Rattle.cli_inputs.specs.Reports.{Refuses, logs};
-ghost use Rattle.cli_views.specs.Views.{BreaksFilm, HasFilmFault, IsFilmed};
+ghost use Rattle.cli_views.specs.Views.{BreaksFilm, HasFilmFault, IsFilmed, title_for};
 ghost use Rattle.cli_inputs.specs.Setting.{IsSet, given_by};
 
 use crate::showing::{coil_refusal, styles_of};
@@ -15,7 +15,18 @@ use diagram_program::Program;
 use io_text::Sink;
 use scan_cycle::State;
 use std::alloc::Global;
+use std::path::Path;
 use text_trace::{Film, write_film};
+
+/// The title of a film: the name of the program's file, without the folders of its path.
+fn title_of(path: &str) -> &str
+    ensures { result.now ≡ title_for path.now }
+{
+    match Path::new(path).file_name() {
+        Some(name) => name,
+        None => path,
+    }
+}
 
 /// Shows one scan for each record of the stimulus, the first one in a state.
 fn film_from<O: Sink, E: Sink>(
@@ -45,6 +56,7 @@ fn film_from<O: Sink, E: Sink>(
     }
     let film = Film {
         style: styles_of(request.medium).frame,
+        title: title_of(request.file.as_str()).as_bytes(),
         text: &texts.program,
         coil: asked.coil,
     };

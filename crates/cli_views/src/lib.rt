@@ -1,6 +1,7 @@
 //! The requests for texts about a program, drawings of a scan, and simulations.
 #![tactic(auto)]
 
+mod expecting;
 mod filming;
 mod printing;
 mod showing;
@@ -9,6 +10,7 @@ mod watched;
 mod watching;
 mod waving;
 
+pub use expecting::expect;
 pub use filming::film;
 pub use printing::{About, print};
 pub use showing::show;

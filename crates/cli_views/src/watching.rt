@@ -1,9 +1,10 @@
 //! A request for the trace of a stimulus with what is watched beside its outputs, or of changes.
 
-ghost use Rattle.std.specs.Prelude.{◌≡◌, ◌≤◌, ◌⊎◌};
+ghost use Rattle.std.specs.Prelude.{◌≡◌, ◌≤◌, ◌⊎◌, unwrap_or};
 ghost use Rattle.cli_inputs.specs.Reports.{Refuses, logs};
 ghost use Rattle.scan_cycle.specs.Standing.{Fits};
-ghost use Rattle.cli_inputs.specs.Setting.{IsSet, given_by};
+ghost use Rattle.text_trace.specs.Simulation.{TellsReached, WatchesEvery};
+ghost use Rattle.cli_inputs.specs.Setting.{IsSet, given_by, stimulus_records};
 ghost use Rattle.cli_views.specs.Views.{BreaksWatch, HasWatchFault, IsWatched};
 
 use crate::tracing::{save_state, stimulus};
@@ -12,7 +13,33 @@ use cli_arguments::WatchRequest;
 use cli_inputs::{Setting, Texts, ToolFault, read_setting, report};
 use io_text::Sink;
 use std::alloc::Global;
-use text_trace::{Watched, watch as watch_scans};
+use text_trace::{Column, SimFault, Watched, watch as watch_scans};
+
+/// Simulates the stimulus, and writes the trace with these columns beside the outputs.
+pub(crate) fn write_trace<O: Sink, E: Sink>(
+    alloc: Global,
+    request: &WatchRequest,
+    columns: &[Column],
+    setting: &mut Setting,
+    texts: &Texts,
+    out: &mut O,
+    err: &mut E,
+) -> Result<u64, SimFault>
+    requires { Fits setting.old.program setting.old.state }
+    ensures fits { Fits setting.new.program setting.new.state }
+    ensures program { setting.new.program ≡ setting.old.program }
+    ensures trace { WatchesEvery request.now.changes columns.now (unwrap_or request.now.sim.every 0) setting.old.program setting.old.state (stimulus_records (given_by texts.now)) setting.new.state (O.log out.old) (O.log out.new) result }
+    ensures told { TellsReached request.now.progress request.now.changes (unwrap_or request.now.sim.every 0) setting.old.program setting.old.state (stimulus_records (given_by texts.now)) setting.new.state (E.log err.old) (E.log err.new) result }
+{
+    let watched = Watched {
+        columns,
+        changes: request.changes,
+        every: request.sim.every.unwrap_or(0),
+        tells: request.progress,
+    };
+    let (program, state) = (&setting.program, &mut setting.state);
+    watch_scans(alloc, program, watched, state, stimulus(texts), out, err)
+}
 
 /// Simulates the stimulus from a state, and saves the one after the last scan where that is asked for.
 fn watch_from<O: Sink, S: Sink, E: Sink>(
@@ -32,22 +59,17 @@ fn watch_from<O: Sink, S: Sink, E: Sink>(
         → Refuses (given_by texts.now) (HasWatchFault (given_by texts.now) request.now) (logs (O.log out.old) (S.log save.old) (E.log err.old)) (logs (O.log out.new) (S.log save.new) (E.log err.new))
         ⊎ BreaksWatch (given_by texts.now) request.now (logs (O.log out.old) (S.log save.old) (E.log err.old)) (logs (O.log out.new) (S.log save.new) (E.log err.new)) }
 {
-    let (program, state) = (&setting.program, &mut setting.state);
-    let columns = match watched_columns(alloc, program.decls(), request.all, &request.names) {
+    let decls = setting.program.decls();
+    let columns = match watched_columns(alloc, decls, request.all, &request.names) {
         Ok(columns) => columns,
         Err(fault) => return report(texts, &fault, err),
     };
-    let every = request.sim.every.unwrap_or(0);
-    let watched = Watched {
-        columns: &columns,
-        changes: request.changes,
-    };
-    let run = watch_scans(alloc, program, watched, state, stimulus(texts), every, out);
+    let run = write_trace(alloc, request, &columns, setting, texts, out, err);
     if let Err(fault) = run {
         return report(texts, &ToolFault::Sim(fault), err);
     }
     let saves = request.sim.save.is_some();
-    let Ok(()) = save_state(saves, program, state, save) else {
+    let Ok(()) = save_state(saves, &setting.program, &setting.state, save) else {
         return report(texts, &ToolFault::Write, err);
     };
     0

@@ -1,11 +1,14 @@
 use Rattle.std.proofs.Common.{refl}
 use Rattle.std.proofs.lemmas.Result.{err_from_is_err_and}
 use Rattle.clap.specs.Words.{found_of, rows_of}
-use Rattle.cli_arguments.proofs.Faults.{no_waves_of_every, no_waves_of_played, no_waves_of_save, no_waves_of_rows, usage_weaker}
+use Rattle.cli_arguments.proofs.Faults.{no_waves_of_every, no_waves_of_expect, no_waves_of_played, no_waves_of_save, no_waves_of_rows, usage_weaker}
 use Rattle.cli_arguments.proofs.simulating.waves_request.Goals as goal
 
 pub returns-then-is_given-clause-err : goal.returns-then-is_given-clause-err
 returns-then-is_given-clause-err c = no_waves_of_save (rows_of (found_of c.args.found.now)) c.requires (c.if-is_given.ensures.given refl).0
+
+pub returns-then-is_given-2-clause-err : goal.returns-then-is_given-2-clause-err
+returns-then-is_given-2-clause-err c = no_waves_of_expect (rows_of (found_of c.args.found.now)) c.requires (c.if-is_given-2.ensures.given refl).0
 
 pub returns-then-not-is_plain-clause-err : goal.returns-then-not-is_plain-clause-err
 returns-then-not-is_plain-clause-err c = no_waves_of_rows (rows_of (found_of c.args.found.now)) c.requires (c.is_plain.ensures.other c.if-not-is_plain.true)
