@@ -116,13 +116,13 @@ page_style = PAGE_STYLE.now
 unfoldable pub page_legend : List ℕ
 page_legend = PAGE_LEGEND.now
 
--- A page begins with its title and its style; rest: what this page adds to the style, and the end of it.
-abbrev pub page_begun : List ℕ → List ℕ → List ℕ
-page_begun title rest = page_opening ++ (title ++ (page_style ++ rest))
+-- A page begins with its title and the style of any page.
+abbrev pub page_begun : List ℕ → List ℕ
+page_begun title = page_opening ++ (escaped_line title ++ page_style)
 
 -- What begins a page of one picture.
 unfoldable pub page_start : List ℕ
-page_start = page_begun (codes "diagram") (codes "</style>\n<pre>\n")
+page_start = page_begun (codes "Ladder diagram") ++ codes "</style>\n<pre>\n"
 
 -- Above the drawing: the moment of the scan and its inputs, and what the looks mean. They are what the text has, without the signs of its
 -- comments.
@@ -145,8 +145,12 @@ page_tail p after = page_below p after (codes "\n</pre>\n</html>\n")
 unfoldable pub frames_style : List ℕ
 frames_style = FRAMES_STYLE.now
 
-unfoldable pub frames_start : List ℕ
-frames_start = page_begun (codes "film") frames_style
+-- Above the buttons its title stands again.
+abbrev pub heading : List ℕ → List ℕ
+heading title = codes "<h1>" ++ (escaped_line title ++ codes "</h1>\n")
+
+abbrev pub frames_start : List ℕ → List ℕ
+frames_start title = page_begun title ++ (frames_style ++ heading title)
 
 -- what begins a button, up to its words
 unfoldable pub button_start : List ℕ

@@ -76,12 +76,12 @@ tail_of MarkedFrame p after = tail_line p after (codes " *)\n\n")
 tail_of Page p after = page_tail p after
 tail_of PageFrame p after = frame_tail p after
 
--- What stands before the drawings of a film: only pictures of a page need it.
-abbrev pub film_start : Style → List ℕ
-film_start Marked = []
-film_start MarkedFrame = []
-film_start Page = []
-film_start PageFrame = frames_start
+-- What stands before the drawings of a film that has this name: only pictures of a page need it.
+abbrev pub film_start : Style → List ℕ → List ℕ
+film_start Marked title = []
+film_start MarkedFrame title = []
+film_start Page title = []
+film_start PageFrame title = frames_start title
 
 -- Why the coils of a variable have power, or none.
 abbrev pub why_on : Drawing → List Mark → ℕ → List ℕ

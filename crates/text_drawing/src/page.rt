@@ -4,7 +4,7 @@ ghost use Rattle.std.specs.Prelude.{◌≡◌, ◌<◌, ◌^◌, length, positio
 ghost use Rattle.diagram_program.specs.declared.geometry.TheConstants.{RUNGS};
 ghost use Rattle.diagram_program.specs.Bytes.{space};
 ghost use Rattle.io_text.specs.Buffer.{Sends};
-ghost use Rattle.text_drawing.specs.Page.{button, drawn_in, drawn_line, drawn_place, drawn_whole, escaped, escaped_line, frame_head, frames_start, page_above, page_begun, page_below, page_head, page_start, turn};
+ghost use Rattle.text_drawing.specs.Page.{button, drawn_in, drawn_line, drawn_place, drawn_whole, escaped, escaped_line, frame_head, frames_start, heading, page_above, page_begun, page_below, page_head, page_start, turn};
 ghost use Rattle.text_drawing.specs.Pictures.{Fits, lines_of, looks_of};
 ghost use Rattle.text_power.specs.Show.{each};
 ghost use Rattle.text_drawing.specs.Marked.{is_line_of};
@@ -16,12 +16,12 @@ use crate::picture::Picture;
 use io_text::{Piece, Sink, TextBuffer, WriteFault, add_pieces};
 use scan_cycle::State;
 
-/// What begins a page, up to the word of its title.
+/// What begins a page, up to its title.
 const PAGE_OPENING: &[u8] = b"<!DOCTYPE html>
 <html lang=en>
 <meta charset=utf-8>
 <meta name=viewport content=\"width=device-width,initial-scale=1\">
-<title>Ladder ";
+<title>";
 
 /// The end of its title, and its style. Lines are drawn over the characters, so that those can be copied. A wire reaches into the middle
 /// of the characters beside it, and a vertical link into those above and below. On paper the whole width of a drawing fits, upright or
@@ -45,10 +45,11 @@ b{--c:var(--on);--t:3px}
 @media print{body{margin:0}pre{font-size:min(10pt,1.35vw);white-space:pre-wrap;overflow:visible;orphans:9;widows:9}}
 ";
 
-/// The rest of the style of a page of many pictures. The buttons are in rows above the picture that is chosen, or the first one while
-/// none is. On paper all pictures stand one after the other, none cut in two that fits on a sheet; so they do in a browser that can't ask
-/// which one is chosen.
+/// The rest of the style of a page of many pictures. The heading has a row of its own. The buttons are in rows above the picture that is
+/// chosen, or the first one while none is. On paper all pictures stand one after the other, none cut in two that fits on a sheet, and the
+/// heading before the first one on its sheet; so they do in a browser that can't ask which one is chosen.
 const FRAMES_STYLE: &[u8] = b"body{display:flex;flex-wrap:wrap;align-items:center}
+h1{flex-basis:100%;margin:0 0 .5em;font:600 1.2em/1.3 system-ui,sans-serif;overflow-wrap:anywhere}
 label{order:0;margin:0 .5em .5em 0;padding:.1em .6em;border:1px solid var(--off);border-radius:.3em;font:.9em/1.5 system-ui,sans-serif;cursor:pointer}
 label:has(:checked),body:not(:has(:checked))>label:first-of-type{color:var(--on);background:var(--tint);border-color:var(--on);box-shadow:0 0 0 1px var(--on)}
 label:has(:focus-visible){outline:2px solid var(--on);outline-offset:3px}
@@ -56,7 +57,7 @@ input{position:absolute;margin:0;opacity:0}
 pre{order:1;flex-basis:100%;display:none;margin-top:.5em}
 label:has(:checked)+pre,body:not(:has(:checked))>pre:first-of-type{display:block}
 @supports not selector(:has(a)){body,pre{display:block}}
-@media print{body{display:block}label{display:none}pre{display:block;break-inside:avoid;margin:0 0 1em;padding-top:.5em;border-top:1px solid var(--off)}}
+@media print{body{display:block}h1{break-after:avoid}label{display:none}pre{display:block;break-inside:avoid;margin:0 0 1em;padding-top:.5em;border-top:1px solid var(--off)}}
 </style>
 ";
 
@@ -210,22 +211,18 @@ pub(crate) fn add_drawn_line<W: Sink>(
     buffer.add(b"\n", writer)
 }
 
-/// Adds what a page of HTML begins with: its title, and its style, which ends with `rest`.
-fn add_page_begun<'a, W: Sink>(
+/// Adds what a page of HTML begins with: its title, and the style of any page.
+#[tactic(auto, unfolding(crate::specs::Page::page_opening, crate::specs::Page::page_style))]
+fn add_page_begun<W: Sink>(
     buffer: &mut TextBuffer,
-    title: &'a [u8],
-    rest: &'a [u8],
+    title: &[u8],
     writer: &mut W,
 ) -> Result<(), WriteFault>
-    ensures { Sends (W.log writer.old) (W.log writer.new) buffer.old buffer.new result (page_begun title.now rest.now) }
+    ensures { Sends (W.log writer.old) (W.log writer.new) buffer.old buffer.new result (page_begun title.now) }
 {
-    let pieces = [
-        Piece::Text(PAGE_OPENING),
-        Piece::Text(title),
-        Piece::Text(PAGE_STYLE),
-        Piece::Text(rest),
-    ];
-    add_pieces(buffer, pieces.as_slice(), writer)
+    buffer.add(PAGE_OPENING, writer)?;
+    add_escaped_line(buffer, title, writer)?;
+    buffer.add(PAGE_STYLE, writer)
 }
 
 /// Adds what a page with one picture begins with.
@@ -233,18 +230,35 @@ fn add_page_begun<'a, W: Sink>(
 fn add_page_start<W: Sink>(buffer: &mut TextBuffer, writer: &mut W) -> Result<(), WriteFault>
     ensures { Sends (W.log writer.old) (W.log writer.new) buffer.old buffer.new result page_start }
 {
-    add_page_begun(buffer, b"diagram", b"</style>\n<pre>\n", writer)
+    add_page_begun(buffer, b"Ladder diagram", writer)?;
+    buffer.add(b"</style>\n<pre>\n", writer)
 }
 
-/// Adds what the page of a film, with many pictures, begins with.
-#[tactic(auto, unfolding(crate::specs::Page::frames_start, crate::specs::Page::frames_style))]
-pub(crate) fn add_frames_start<W: Sink>(
+/// Adds the heading of a page.
+fn add_heading<W: Sink>(
     buffer: &mut TextBuffer,
+    title: &[u8],
     writer: &mut W,
 ) -> Result<(), WriteFault>
-    ensures { Sends (W.log writer.old) (W.log writer.new) buffer.old buffer.new result frames_start }
+    ensures { Sends (W.log writer.old) (W.log writer.new) buffer.old buffer.new result (heading title.now) }
 {
-    add_page_begun(buffer, b"film", FRAMES_STYLE, writer)
+    buffer.add(b"<h1>", writer)?;
+    add_escaped_line(buffer, title, writer)?;
+    buffer.add(b"</h1>\n", writer)
+}
+
+/// Adds what the page of a film, with many pictures, begins with: the film's name is its title, and its heading.
+#[tactic(auto, unfolding(crate::specs::Page::frames_style))]
+pub(crate) fn add_frames_start<W: Sink>(
+    buffer: &mut TextBuffer,
+    title: &[u8],
+    writer: &mut W,
+) -> Result<(), WriteFault>
+    ensures { Sends (W.log writer.old) (W.log writer.new) buffer.old buffer.new result (frames_start title.now) }
+{
+    add_page_begun(buffer, title, writer)?;
+    buffer.add(FRAMES_STYLE, writer)?;
+    add_heading(buffer, title, writer)
 }
 
 /// Adds what is written above the lines of a picture: the moment and the inputs, and what the looks mean.

@@ -234,29 +234,34 @@ pub(crate) fn write_noted<W: Sink>(picture: Picture<'_>, writer: &mut W) -> Resu
     buffer.flush(writer)
 }
 
-/// Adds what a film begins with: a page of HTML has a head, a text has none.
+/// Adds what a film begins with: a page of HTML has a head with its title, a text has none.
 fn add_film_start<W: Sink>(
     buffer: &mut TextBuffer,
     style: Style,
+    title: &[u8],
     writer: &mut W,
 ) -> Result<(), WriteFault>
-    ensures { Sends (W.log writer.old) (W.log writer.new) buffer.old buffer.new result (film_start style) }
+    ensures { Sends (W.log writer.old) (W.log writer.new) buffer.old buffer.new result (film_start style title.now) }
 {
     match style {
         Style::Marked | Style::MarkedFrame | Style::Page => buffer.add(b"", writer),
-        Style::PageFrame => add_frames_start(buffer, writer),
+        Style::PageFrame => add_frames_start(buffer, title, writer),
     }
 }
 
-/// Writes what a film begins with, before its drawings.
+/// Writes what a film begins with, before its drawings. A page has this title, also as its heading.
 ///
 /// # Errors
 ///
 /// The writer failed. What was written is a prefix of it.
-pub fn write_film_start<W: Sink>(style: Style, writer: &mut W) -> Result<(), WriteFault>
-    ensures { Puts (W.log writer.old) (W.log writer.new) result (film_start style) }
+pub fn write_film_start<W: Sink>(
+    style: Style,
+    title: &[u8],
+    writer: &mut W,
+) -> Result<(), WriteFault>
+    ensures { Puts (W.log writer.old) (W.log writer.new) result (film_start style title.now) }
 {
     let mut buffer = TextBuffer::new();
-    add_film_start(&mut buffer, style, writer)?;
+    add_film_start(&mut buffer, style, title, writer)?;
     buffer.flush(writer)
 }

@@ -1,5 +1,6 @@
 pub mod Coming
 pub mod Filled
+pub mod Reached
 pub mod Room
 pub mod Simulation
 pub mod Steps

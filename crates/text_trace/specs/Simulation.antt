@@ -145,7 +145,7 @@ WavesEvery = FollowsEvery as_waves
 abbrev pub as_film : Film → Recorded
 as_film film = record {
   most = 1000;
-  head = λ p s. film_start film.style;
+  head = λ p s. film_start film.style film.title.now;
   Tells = λ p done s moment inputs piece. IsDrawn film.style (one_scan film.text.now p s inputs moment film.coil) piece;
 }
 

@@ -9,6 +9,8 @@ use Rattle.scan_cycle.specs.Standing.{Standing}
 use Rattle.io_text.specs.Log.{PutsAll, PutsPrefix, WriteLog}
 use Rattle.text_trace.specs.declared.fault.SimFault.{SimFault}
 use Rattle.text_trace.specs.declared.fault.SimFault.TheVariants as fault
+use Rattle.text_trace.specs.declared.fault.WatchFault.{WatchFault}
+use Rattle.text_trace.specs.declared.fault.WatchFault.TheVariants.{Lines, Sim}
 use Rattle.text_trace.specs.declared.recording.Recording.{Recording}
 use Rattle.text_trace.specs.declared.recording.Recording.TheVariants as recordings
 use Rattle.text_trace.specs.declared.filling.Filling.{Filling}
@@ -16,6 +18,7 @@ use Rattle.text_trace.specs.declared.simulation.Run.{Run}
 use Rattle.text_trace.specs.Coming.{Comes}
 use Rattle.text_trace.specs.Filled.{Numbered, all_fields, told_of}
 use Rattle.text_trace.specs.Simulation.{Follows, GoesBack, HasUnknownName, IsBadHeader, IsNoRow, IsUntouched, Runs, as_film, as_waves, with_scans}
+use Rattle.text_trace.specs.Reached.{WritesAll, WritesBefore, as_reached}
 use Rattle.text_trace.specs.Trace.{IsStep, Recorded, as_changes, as_trace, as_watched, scanned}
 
 -- What is recorded, as it was asked for.
@@ -29,6 +32,10 @@ as_asked recordings.Waves = as_waves
 -- The same of a run, which may have scans between the records.
 abbrev pub as_run : Run → Recorded
 as_run run = with_scans run.every (as_asked run.recording)
+
+-- What its lines tell.
+abbrev pub as_lines : Run → Recorded
+as_lines run = as_reached run.lines (as_run run)
 
 -- A film needs the text of the program.
 abbrev pub CanRecord : Recording → Drawing → Type 0
@@ -84,3 +91,15 @@ pub record IsGoing (recorded : Recorded) (p : Drawing) (columns : List ℕ) (s :
 -- The simulation of these records ends so, and a fault tells the number of the record in the file.
 abbrev pub Ends : Recorded → Drawing → Standing → List Numbered → Standing → WriteLog → WriteLog → Result ℕ SimFault → Type 0
 Ends recorded p s all t old new end = (r : Result ℕ SimFault) × Follows recorded p s (all_fields all) t old new r × (end ≡ told_of all r)
+
+-- So the lines end where the simulation does with a fault.
+abbrev pub EndsLines : Recorded → Drawing → Standing → List Numbered → Standing → WriteLog → WriteLog → SimFault → Type 0
+EndsLines lines p s all t old new fault.Write = WritesBefore lines p s (all_fields all) t old new
+EndsLines lines p s all t old new f = Ends lines p s all t old new (Err f)
+
+-- So a simulation ends with its lines.
+abbrev pub EndsBoth : Recorded → ℕ → Drawing → Standing → List Numbered → Standing → WriteLog → WriteLog → WriteLog → WriteLog → Result ℕ WatchFault → Type 0
+EndsBoth recorded each p s all t out out' err err' (Ok n) = Ends recorded p s all t out out' (Ok n) × Ends (as_reached each recorded) p s all t err err' (Ok n)
+EndsBoth recorded each p s all t out out' err err' (Err (Sim f)) = Ends recorded p s all t out out' (Err f) × EndsLines (as_reached each recorded) p s all t err err' f
+EndsBoth recorded each p s all t out out' err err' (Err Lines) =
+    (0 < each) × WritesAll recorded p s (all_fields all) t out out' × Ends (as_reached each recorded) p s all t err err' (Err fault.Write)

@@ -17,10 +17,19 @@ pub enum SimFault {
     /// X5: there are more records than a simulation takes.
     #[error("record {row} is one too many")]
     TooLong { row: u64 },
-    /// X6: the writer failed.
+    /// X6: the writer of what is recorded failed.
     #[error("the writer failed")]
     Write,
     /// X7: out of memory.
     #[error("out of memory")]
     Memory,
+}
+
+/// Why a simulation ends early whose lines tell how far it is.
+#[derive(Clone, Copy, Debug, PartialEq, Eq)]
+pub enum WatchFault {
+    /// The simulation does.
+    Sim(SimFault),
+    /// X6: the writer of the lines failed.
+    Lines,
 }

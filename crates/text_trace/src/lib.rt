@@ -13,6 +13,6 @@ mod trace;
 mod watching;
 
 pub use column::Column;
-pub use fault::SimFault;
+pub use fault::{SimFault, WatchFault};
 pub use recording::{Film, Watched};
 pub use simulation::{simulate, simulate_every, watch, write_film, write_waves};

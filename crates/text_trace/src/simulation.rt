@@ -1,6 +1,6 @@
 //! The simulation of a stimulus, record by record.
 
-ghost use Rattle.std.specs.Prelude.{◌≡◌, ◌<◌, ◌≤◌, ◌+◌, [], ℕ, All, IfOk, IfSome, List, OnOk, count_by, length};
+ghost use Rattle.std.specs.Prelude.{◌≡◌, ◌<◌, ◌≤◌, ◌+◌, ◌-◌, ◌^◌, [], ℕ, All, IfOk, IfSome, List, OnErr, OnOk, count_by, false, length, true};
 ghost use Rattle.csv.specs.Records.{fields_of};
 ghost use Rattle.diagram_reader.specs.Reading.{IsProgram};
 ghost use Rattle.diagram_reader.specs.Titled.{without_aliases};
@@ -14,14 +14,15 @@ ghost use Rattle.io_text.specs.Log.{Puts, WriteLog};
 ghost use Rattle.diagram_declarations.specs.Decls.{is_input};
 ghost use Rattle.text_trace.specs.Coming.{Gives, IsFresh, IsSound};
 ghost use Rattle.text_trace.specs.Filled.{Numbered, filled};
+ghost use Rattle.text_trace.specs.Reached.{Reaches, WatchesTold, each_of, reached_piece};
 ghost use Rattle.text_trace.specs.Room.{IsReady};
-ghost use Rattle.text_trace.specs.Simulation.{Films, FollowsEvery, Simulates, SimulatesEvery, WatchesEvery, WavesEvery, as_film, as_waves};
-ghost use Rattle.text_trace.specs.Steps.{CanRecord, Ends, IsGoing, ScansTo, StepsTo, as_asked, as_run};
+ghost use Rattle.text_trace.specs.Simulation.{Films, FollowsEvery, Simulates, SimulatesEvery, WavesEvery, as_film, as_waves};
+ghost use Rattle.text_trace.specs.Steps.{CanRecord, EndsBoth, IsGoing, ScansTo, StepsTo, as_asked, as_lines, as_run};
 ghost use Rattle.text_trace.specs.Trace.{as_changes, as_trace, as_watched};
 
 use crate::alike::are_alike;
 use crate::column::Column;
-use crate::fault::SimFault;
+use crate::fault::{SimFault, WatchFault};
 use crate::filling::{Filling, Taken, filling_from, take};
 use crate::header::columns;
 use crate::recording::{Film, Recording, Watched};
@@ -30,10 +31,11 @@ use crate::trace::{outputs, write_header, write_row};
 use crate::watching::{write_watched_header, write_watched_row};
 use csv::ByteRecord;
 use diagram_program::Program;
-use io_text::{Sink, TextBuffer, WriteFault, next};
+use io_text::{CountedWriter, Piece, Sink, TextBuffer, WriteFault, next, put_pieces};
 use scan_cycle::State;
 use scan_incremental::{Resting, scan};
 use std::alloc::{AllocError, Global};
+use std::io;
 use text_drawing::{Scan, ShowFault, write_drawing, write_film_start};
 use text_vcd::{write_changes, write_start};
 
@@ -45,6 +47,12 @@ const MOST_FILLED: u64 = 10_000_000_000;
 
 /// The most of a film.
 const MOST_DRAWN: u64 = 1_000;
+
+/// After how many scans of a whole trace a line tells how far it is: about a second's work.
+const LINES_WHOLE: u64 = 1_000_000;
+
+/// The same of a trace of changes, which has few rows.
+const LINES_CHANGES: u64 = 10_000_000;
 
 /// What a simulation allocates before its first write, beside its records: the input image and the bits of a row of the trace, with the
 /// numbers of the variables that they are filled from, the buffer for a row, and a state for what a waveform compares with. With it goes
@@ -68,6 +76,8 @@ struct Run<'a> {
     recording: Recording<'a>,
     /// The time between two scans where a record is held, in ms; 0 where each record has one scan.
     every: u64,
+    /// After how many scans there is a line that tells how far the simulation is; 0: there is none.
+    lines: u64,
     /// How many scans were made.
     done: u64,
 }
@@ -103,7 +113,7 @@ fn write_head<W: Sink>(
         Recording::Watched(columns) | Recording::Changes(columns) => {
             write_watched_header(program, columns, buffer, writer)
         }
-        Recording::Film(film) => write_film_start(film.style, writer),
+        Recording::Film(film) => write_film_start(film.style, film.title, writer),
         Recording::Waves => write_start(program, state, buffer, writer),
     }
 }
@@ -312,15 +322,33 @@ fn step<W: Sink>(
     }
 }
 
-/// Takes all records after the header, one scan each, up to the most that a recording may have.
-fn follow_rows<W: Sink>(
+/// Tells the moment of a scan that `done` others precede, if it is one of each `lines`; 0: none is.
+fn tell<E: Sink>(lines: u64, done: u64, moment: u64, err: &mut E) -> Result<(), WriteFault>
+    requires { done < 2 ^ 64 - 1 }
+    ensures told { Puts (E.log err.old) (E.log err.new) result (reached_piece lines done moment) }
+    ensures asked { OnErr result (0 < lines) }
+{
+    if lines == 0 || (done + 1) % lines > 0 {
+        return Ok(());
+    }
+    let pieces = [
+        Piece::Text(b"reached "),
+        Piece::Number(moment),
+        Piece::Text(b"\n"),
+    ];
+    put_pieces(err, pieces.as_slice())
+}
+
+/// Takes all records after the header, one scan each, up to the most that a recording may have. After a scan comes its line.
+fn follow_rows<W: Sink, E: Sink>(
     run: Run<'_>,
     columns: &[usize],
     filling: &mut Filling<'_>,
     room: &mut Room,
     state: &mut State,
     writer: &mut W,
-) -> Result<u64, SimFault>
+    err: &mut E,
+) -> Result<u64, WatchFault>
     requires recorded { CanRecord run.recording run.program.now }
     requires sound { IsSound columns.now filling.old }
     requires first { filling.old.number ≡ 2 }
@@ -329,43 +357,49 @@ fn follow_rows<W: Sink>(
     requires rest { IsTrueOf (diagram_of run.program.now) state.old.moment state.old.held room.old.resting }
     requires below { All (λ c. c < count_by is_input run.program.now.decls.vars) columns.now }
     ensures fits { Fits run.entry.program.now state.new }
-    ensures ends { (all : List Numbered) (log : WriteLog)
+    ensures ends { (all : List Numbered) (log told : WriteLog)
         → IsGoing (as_run run.entry) run.entry.program.now columns.now state.old all 0 state.old log (W.log writer.old) filling.old
-        → Ends (as_run run.entry) run.entry.program.now state.old all state.new log (W.log writer.new) result }
+        → IsGoing (as_lines run.entry) run.entry.program.now columns.now state.old all 0 state.old told (E.log err.old) filling.old
+        → EndsBoth (as_run run.entry) run.entry.lines run.entry.program.now state.old all state.new log (W.log writer.new) told (E.log err.new) result }
 {
     let most = most(run);
     for done in 0..u64::MAX {
         let Ok(found) = take(columns, filling) else {
-            return Err(SimFault::Memory);
+            return Err(WatchFault::Sim(SimFault::Memory));
         };
         let Some(taken) = found else {
             return Ok(done);
         };
         if done == most {
-            return Err(SimFault::TooLong { row: taken.number });
+            return Err(WatchFault::Sim(SimFault::TooLong { row: taken.number }));
         }
         let one = Run {
             alloc: run.alloc,
             program: run.program,
             recording: run.recording,
             every: run.every,
+            lines: run.lines,
             done,
         };
         if let Err(fault) = step(one, columns, taken, &filling.last, room, state, writer) {
-            return Err(fault);
+            return Err(WatchFault::Sim(fault));
         }
+        let Ok(()) = tell(run.lines, done, state.moment(), err) else {
+            return Err(WatchFault::Lines);
+        };
     }
-    Err(SimFault::Memory)
+    Err(WatchFault::Sim(SimFault::Memory))
 }
 
-/// Takes the records of a stimulus one after the other, and writes what is recorded of them.
-fn follow_records<W: Sink>(
+/// Takes the records of a stimulus one after the other, writes what is recorded of them, and tells how far it is.
+fn follow_records<W: Sink, E: Sink>(
     run: Run<'_>,
     filling: &mut Filling<'_>,
     room: &mut Room,
     state: &mut State,
     writer: &mut W,
-) -> Result<u64, SimFault>
+    err: &mut E,
+) -> Result<u64, WatchFault>
     requires recorded { CanRecord run.recording run.program.now }
     requires fresh { IsFresh filling.old }
     requires fits { Fits run.program.now state.old }
@@ -373,22 +407,22 @@ fn follow_records<W: Sink>(
     requires rest { IsTrueOf (diagram_of run.program.now) state.old.moment state.old.held room.old.resting }
     ensures fits { Fits run.entry.program.now state.new }
     ensures ends { (rows : List Fields) → Left filling.old.records rows
-        → Ends (as_run run.entry) run.entry.program.now state.old (filled filling.old.every rows) state.new (W.log writer.old) (W.log writer.new) result }
+        → EndsBoth (as_run run.entry) run.entry.lines run.entry.program.now state.old (filled filling.old.every rows) state.new (W.log writer.old) (W.log writer.new) (E.log err.old) (E.log err.new) result }
 {
     let Ok(found) = next(&mut filling.records, &mut filling.last) else {
-        return Err(SimFault::Memory);
+        return Err(WatchFault::Sim(SimFault::Memory));
     };
     if !found {
-        return Err(SimFault::BadRow { row: 1 });
+        return Err(WatchFault::Sim(SimFault::BadRow { row: 1 }));
     }
     let columns = match columns(run.alloc, run.program.decls(), &filling.last) {
         Ok(columns) => columns,
-        Err(fault) => return Err(fault),
+        Err(fault) => return Err(WatchFault::Sim(fault)),
     };
     let Ok(()) = write_head(run.recording, run.program, state, &mut room.buffer, writer) else {
-        return Err(SimFault::Write);
+        return Err(WatchFault::Sim(SimFault::Write));
     };
-    follow_rows(run, &columns, filling, room, state, writer)
+    follow_rows(run, &columns, filling, room, state, writer, err)
 }
 
 /// All that a simulation allocates, before its first write: so none of its scans runs out of memory.
@@ -416,24 +450,46 @@ fn room_for(alloc: Global, program: &Program, state: &State) -> Result<Room, All
     })
 }
 
-/// Reads a stimulus, makes its scans, and writes what is recorded of them.
-fn follow<W: Sink>(
+/// Reads a stimulus, makes its scans, writes what is recorded of them, and tells how far it is.
+fn follow<W: Sink, E: Sink>(
+    run: Run<'_>,
+    state: &mut State,
+    stimulus: &[u8],
+    writer: &mut W,
+    err: &mut E,
+) -> Result<u64, WatchFault>
+    requires recorded { CanRecord run.recording run.program.now }
+    requires fits { Fits run.program.now state.old }
+    ensures fits { Fits run.entry.program.now state.new }
+    ensures ends { Reaches (as_asked run.entry.recording) run.entry.lines run.entry.every run.entry.program.now state.old (records_of stimulus.now) state.new (W.log writer.old) (W.log writer.new) (E.log err.old) (E.log err.new) result }
+{
+    let (alloc, program) = (run.alloc, run.program);
+    let mut filling = filling_from(alloc, stimulus, run.every);
+    let Ok(mut room) = room_for(alloc, program, state) else {
+        return Err(WatchFault::Sim(SimFault::Memory));
+    };
+    follow_records(run, &mut filling, &mut room, state, writer, err)
+}
+
+/// Reads a stimulus, makes its scans, and writes what is recorded of them. It has no lines, so their writer is never used.
+fn follow_untold<W: Sink>(
     run: Run<'_>,
     state: &mut State,
     stimulus: &[u8],
     writer: &mut W,
 ) -> Result<u64, SimFault>
+    requires untold { run.lines ≡ 0 }
     requires recorded { CanRecord run.recording run.program.now }
     requires fits { Fits run.program.now state.old }
     ensures fits { Fits run.entry.program.now state.new }
     ensures ends { FollowsEvery (as_asked run.entry.recording) run.entry.every run.entry.program.now state.old (records_of stimulus.now) state.new (W.log writer.old) (W.log writer.new) result }
 {
-    let (alloc, program) = (run.alloc, run.program);
-    let mut filling = filling_from(alloc, stimulus, run.every);
-    let Ok(mut room) = room_for(alloc, program, state) else {
-        return Err(SimFault::Memory);
-    };
-    follow_records(run, &mut filling, &mut room, state, writer)
+    let mut untold = CountedWriter::new(io::sink());
+    match follow(run, state, stimulus, writer, &mut untold) {
+        Ok(scans) => Ok(scans),
+        Err(WatchFault::Sim(fault)) => Err(fault),
+        Err(WatchFault::Lines) => Err(SimFault::Write),
+    }
 }
 
 /// Scans a stimulus record by record from a state, and writes the trace: each row as one piece, before the next record is read. Returns
@@ -479,82 +535,95 @@ pub fn simulate_every<W: Sink>(
         program,
         recording: Recording::Trace,
         every,
+        lines: 0,
         done: 0,
     };
-    follow(run, state, stimulus, writer)
+    follow_untold(run, state, stimulus, writer)
 }
 
-/// Scans a stimulus, and writes the trace with these columns after the outputs.
-fn watch_whole<W: Sink>(
-    alloc: Global,
-    program: &Program,
-    columns: &[Column],
-    state: &mut State,
-    stimulus: &[u8],
-    every: u64,
-    writer: &mut W,
-) -> Result<u64, SimFault>
-    requires { Fits program.now state.old }
-    ensures fits { Fits program.now state.new }
-    ensures ends { FollowsEvery (as_watched columns.now) every program.now state.old (records_of stimulus.now) state.new (W.log writer.old) (W.log writer.new) result }
+/// After how many scans there is a line; 0: there is none.
+fn lines_of(tells: bool, changes: bool) -> u64
+    ensures { result ≡ each_of tells changes }
 {
-    let run = Run {
-        alloc,
-        program,
-        recording: Recording::Watched(columns),
-        every,
-        done: 0,
-    };
-    follow(run, state, stimulus, writer)
+    match (tells, changes) {
+        (false, _) => 0,
+        (true, false) => LINES_WHOLE,
+        (true, true) => LINES_CHANGES,
+    }
 }
 
-/// Scans a stimulus, and writes the trace of changes with these columns after the outputs.
-fn watch_changes<W: Sink>(
-    alloc: Global,
-    program: &Program,
-    columns: &[Column],
-    state: &mut State,
-    stimulus: &[u8],
-    every: u64,
-    writer: &mut W,
-) -> Result<u64, SimFault>
-    requires { Fits program.now state.old }
-    ensures fits { Fits program.now state.new }
-    ensures ends { FollowsEvery (as_changes columns.now) every program.now state.old (records_of stimulus.now) state.new (W.log writer.old) (W.log writer.new) result }
-{
-    let run = Run {
-        alloc,
-        program,
-        recording: Recording::Changes(columns),
-        every,
-        done: 0,
-    };
-    follow(run, state, stimulus, writer)
-}
-
-/// Scans a stimulus as `simulate` does, and writes the trace with these columns after the outputs: each row, or those of changes. Returns how
-/// many scans there were.
-///
-/// # Errors
-///
-/// As those of `simulate`.
-pub fn watch<W: Sink>(
+/// Scans a stimulus, writes the trace with these columns after the outputs, and tells how far it is.
+fn watch_whole<W: Sink, E: Sink>(
     alloc: Global,
     program: &Program,
     watched: Watched<'_>,
     state: &mut State,
     stimulus: &[u8],
-    every: u64,
     writer: &mut W,
-) -> Result<u64, SimFault>
+    err: &mut E,
+) -> Result<u64, WatchFault>
     requires { Fits program.now state.old }
     ensures fits { Fits program.now state.new }
-    ensures ends { WatchesEvery watched.entry.changes watched.entry.columns.now every program.now state.old (records_of stimulus.now) state.new (W.log writer.old) (W.log writer.new) result }
+    ensures ends { Reaches (as_watched watched.entry.columns.now) (each_of watched.entry.tells false) watched.entry.every program.now state.old (records_of stimulus.now) state.new (W.log writer.old) (W.log writer.new) (E.log err.old) (E.log err.new) result }
 {
-    let columns = watched.columns;
+    let run = Run {
+        alloc,
+        program,
+        recording: Recording::Watched(watched.columns),
+        every: watched.every,
+        lines: lines_of(watched.tells, false),
+        done: 0,
+    };
+    follow(run, state, stimulus, writer, err)
+}
+
+/// Scans a stimulus, writes the trace of changes with these columns after the outputs, and tells how far it is.
+fn watch_changes<W: Sink, E: Sink>(
+    alloc: Global,
+    program: &Program,
+    watched: Watched<'_>,
+    state: &mut State,
+    stimulus: &[u8],
+    writer: &mut W,
+    err: &mut E,
+) -> Result<u64, WatchFault>
+    requires { Fits program.now state.old }
+    ensures fits { Fits program.now state.new }
+    ensures ends { Reaches (as_changes watched.entry.columns.now) (each_of watched.entry.tells true) watched.entry.every program.now state.old (records_of stimulus.now) state.new (W.log writer.old) (W.log writer.new) (E.log err.old) (E.log err.new) result }
+{
+    let run = Run {
+        alloc,
+        program,
+        recording: Recording::Changes(watched.columns),
+        every: watched.every,
+        lines: lines_of(watched.tells, true),
+        done: 0,
+    };
+    follow(run, state, stimulus, writer, err)
+}
+
+/// Scans a stimulus as `simulate_every` does, and writes the trace with these columns after the outputs: each row, or those of changes. Where
+/// that is asked for, the line `reached MOMENT` tells on `err` how far it is, after each so many scans. Returns how many scans there were.
+///
+/// # Errors
+///
+/// As those of `simulate`. Where a line could not be written, the rows of all scans up to its own were, and the state is the one after that.
+pub fn watch<W: Sink, E: Sink>(
+    alloc: Global,
+    program: &Program,
+    watched: Watched<'_>,
+    state: &mut State,
+    stimulus: &[u8],
+    writer: &mut W,
+    err: &mut E,
+) -> Result<u64, WatchFault>
+    requires { Fits program.now state.old }
+    ensures fits { Fits program.now state.new }
+    ensures ends { WatchesTold watched.entry.tells watched.entry.changes watched.entry.columns.now watched.entry.every program.now state.old (records_of stimulus.now) state.new (W.log writer.old) (W.log writer.new) (E.log err.old) (E.log err.new) result }
+{
     match watched.changes {
-        true => watch_changes(alloc, program, columns, state, stimulus, every, writer),
-        false => watch_whole(alloc, program, columns, state, stimulus, every, writer),
+        true => watch_changes(alloc, program, watched, state, stimulus, writer, err),
+        false => watch_whole(alloc, program, watched, state, stimulus, writer, err),
     }
 }
 
@@ -581,9 +650,10 @@ pub fn write_film<W: Sink>(
         program,
         recording: Recording::Film(film),
         every: 0,
+        lines: 0,
         done: 0,
     };
-    follow(run, state, stimulus, writer)
+    follow_untold(run, state, stimulus, writer)
 }
 
 /// Scans a stimulus as `simulate` does, and writes a waveform: a value change dump of the variables and of the instances' outputs, for
@@ -609,7 +679,8 @@ pub fn write_waves<W: Sink>(
         program,
         recording: Recording::Waves,
         every,
+        lines: 0,
         done: 0,
     };
-    follow(run, state, stimulus, writer)
+    follow_untold(run, state, stimulus, writer)
 }
