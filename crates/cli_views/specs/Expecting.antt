@@ -5,8 +5,9 @@ use Rattle.scan_cycle.specs.Standing.{Standing}
 use Rattle.io_text.specs.Log.{PutsPrefix, WriteLog}
 use Rattle.io_text.specs.Text.{records_of}
 use Rattle.text_state.specs.StateText.{state_text}
-use Rattle.text_trace.specs.declared.fault.SimFault.{SimFault}
 use Rattle.text_trace.specs.declared.fault.SimFault.TheVariants as sim
+use Rattle.text_trace.specs.declared.fault.WatchFault.{WatchFault}
+use Rattle.text_trace.specs.declared.fault.WatchFault.TheVariants as watch
 use Rattle.text_expected.specs.Expected.{Compares}
 use Rattle.text_expected.specs.declared.fault.ExpectFault.{ExpectFault}
 use Rattle.text_expected.specs.declared.fault.ExpectFault.TheVariants as expect
@@ -37,9 +38,10 @@ abbrev pub IsExpected : Given → ExpectRequest → Logs → Logs → Type 0
 IsExpected g r old new = Expects g r (Ok true) old new new.err (IsSaved (is_some r.watch.sim.save) old.save new.save)
 
 -- The trace is kept in memory, so a fault of its writer is that of memory.
-abbrev pub kept_fault : SimFault → ToolFault
-kept_fault sim.Write = fault.Memory
-kept_fault other = fault.Sim other
+abbrev pub kept_fault : WatchFault → ToolFault
+kept_fault (watch.Sim sim.Write) = fault.Memory
+kept_fault (watch.Sim other) = fault.Sim other
+kept_fault watch.Lines = fault.Write
 
 abbrev pub unsaid : ExpectFault → ToolFault
 unsaid expect.Write = fault.Write
@@ -49,7 +51,7 @@ unsaid expect.Memory = fault.Memory
 -- was written; or a fault came while it was looked for and written. Or the trace has these records, the state was to be saved, and `save` failed.
 abbrev pub BreaksExpected : Given → ExpectRequest → Logs → Logs → Type 0
 BreaksExpected g r old new =
-    ((f : SimFault) × (told blank cut : WriteLog) × Watches g r.watch blank cut old.err told (Err f) (λ p s. new.save ≡ old.save) × (new.out ≡ old.out)
+    ((f : WatchFault) × (told blank cut : WriteLog) × Watches g r.watch blank cut old.err told (Err f) (λ p s. new.save ≡ old.save) × (new.out ≡ old.out)
     × IsReported g told new.err (kept_fault f))
     ⊎ (Expects g r (Ok false) old new new.err (λ p s. new.save ≡ old.save)
     ⊎ (((f : ExpectFault) × (told : WriteLog) × Expects g r (Err f) old new told (λ p s. new.save ≡ old.save) × IsReported g told new.err (unsaid f))

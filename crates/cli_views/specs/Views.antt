@@ -20,7 +20,11 @@ use Rattle.io_text.specs.Log.{PutsAll, PutsPrefix, WriteLog}
 use Rattle.text_trace.specs.declared.column.Column.{Column}
 use Rattle.text_trace.specs.declared.fault.SimFault.{SimFault}
 use Rattle.text_trace.specs.declared.recording.Film.{Film}
-use Rattle.text_trace.specs.Simulation.{Films, SimulatesEvery, TellsReached, WatchesEvery, WavesEvery}
+use Rattle.text_trace.specs.declared.fault.WatchFault.{WatchFault}
+use Rattle.text_trace.specs.declared.fault.WatchFault.TheVariants as watch
+use Rattle.text_trace.specs.Reached.{WatchesTold}
+use Rattle.text_trace.specs.Simulation.{Films, SimulatesEvery, WatchesEvery, WavesEvery}
+use Rattle.io_text.specs.Left.{Fields}
 use Rattle.io_text.specs.Text.{lines_text}
 use Rattle.text_warnings.specs.Told.{Told}
 use Rattle.text_warnings.specs.Warnings.{warning_rows}
@@ -144,17 +148,22 @@ BreaksTrace g every saves old new =
 
 -- ---- a simulation with what is watched
 
--- The stimulus was simulated so, with what is watched beside the outputs: the trace was written whole, or that of changes; and on a second writer
--- how far it was, where that is asked for.
-pub record Watches (g : Given) (r : WatchRequest) (out out' err err' : WriteLog) (end : Result ℕ SimFault) (Saved : Drawing → Standing → Type 0) : Type 0 where
+-- A trace with these columns was written, whole or of changes, and on a second writer lines tell how far it was, or nothing.
+abbrev pub WritesTrace : Bool → Bool → List Column → ℕ → Drawing → Standing → List Fields → Standing → WriteLog → WriteLog → WriteLog → WriteLog → Result ℕ WatchFault → Type 0
+WritesTrace true changes columns every p s rows t out out' err err' end = WatchesTold true changes columns every p s rows t out out' err err' end
+WritesTrace false changes columns every p s rows t out out' err err' (Ok scans) = WatchesEvery changes columns every p s rows t out out' (Ok scans) × (err' ≡ err)
+WritesTrace false changes columns every p s rows t out out' err err' (Err (watch.Sim f)) = WatchesEvery changes columns every p s rows t out out' (Err f) × (err' ≡ err)
+WritesTrace false changes columns every p s rows t out out' err err' (Err watch.Lines) = ⊥
+
+-- The stimulus was simulated so, with what is watched beside the outputs.
+pub record Watches (g : Given) (r : WatchRequest) (out out' err err' : WriteLog) (end : Result ℕ WatchFault) (Saved : Drawing → Standing → Type 0) : Type 0 where
   pub program : Drawing
   pub before : Standing
   pub after : Standing
   pub columns : List Column
   pub set : IsSet g program before
   pub watched : AreColumns program.decls r.all (map string_bytes r.names.items) columns
-  pub trace : WatchesEvery r.changes columns (unwrap_or r.sim.every 0) program before (stimulus_records g) after out out' end
-  pub told : TellsReached r.progress r.changes (unwrap_or r.sim.every 0) program before (stimulus_records g) after err err' end
+  pub trace : WritesTrace r.progress r.changes columns (unwrap_or r.sim.every 0) program before (stimulus_records g) after out out' err err' end
   pub saved : Saved program after
 
 -- Status 0: this trace of the whole stimulus was written, and nothing else on `err` than how far it was.
@@ -173,10 +182,15 @@ abbrev pub HasWatchFault : Given → WatchRequest → ToolFault → Type 0
 HasWatchFault g r f =
     HasSettingFault g f ⊎ ((p : Drawing) × (s : Standing) × IsSet g p s × HasNameFault p.decls (map string_bytes r.names.items) f)
 
+-- the fault of a simulation, or of the writer of its lines
+abbrev pub watch_fault : WatchFault → ToolFault
+watch_fault (watch.Sim f) = fault.Sim f
+watch_fault watch.Lines = fault.Write
+
 -- Status 1: a fault stopped the simulation, and no state was saved; or the state was to be saved, and `save` failed.
 abbrev pub BreaksWatch : Given → WatchRequest → Logs → Logs → Type 0
 BreaksWatch g r old new =
-    ((f : SimFault) × (told : WriteLog) × Watches g r old.out new.out old.err told (Err f) (λ p s. new.save ≡ old.save) × IsReported g told new.err (fault.Sim f))
+    ((f : WatchFault) × (told : WriteLog) × Watches g r old.out new.out old.err told (Err f) (λ p s. new.save ≡ old.save) × IsReported g told new.err (watch_fault f))
     ⊎ ((scans : ℕ) × (told : WriteLog) × (is_some r.sim.save ≡ true)
     × Watches g r old.out new.out old.err told (Ok scans) (λ p s. PutsPrefix old.save new.save (state_text p s)) × IsReported g told new.err fault.Write)
 

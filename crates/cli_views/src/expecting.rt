@@ -15,7 +15,7 @@ use cli_inputs::{Setting, Texts, ToolFault, read_setting, report};
 use io_text::{CountedWriter, Sink};
 use std::alloc::Global;
 use text_expected::{ExpectFault, write_difference};
-use text_trace::SimFault;
+use text_trace::{SimFault, WatchFault};
 
 /// The bytes of the trace that is expected; none where there is no text.
 fn expected(texts: &Texts) -> &[u8]
@@ -28,12 +28,13 @@ fn expected(texts: &Texts) -> &[u8]
 }
 
 /// The fault of a simulation whose trace is kept in memory: where its writer fails, memory ran out.
-fn kept_fault(fault: SimFault) -> ToolFault
+fn kept_fault(fault: WatchFault) -> ToolFault
     ensures { result ≡ kept_fault fault }
 {
     match fault {
-        SimFault::Write => ToolFault::Memory,
-        other => ToolFault::Sim(other),
+        WatchFault::Sim(SimFault::Write) => ToolFault::Memory,
+        WatchFault::Sim(other) => ToolFault::Sim(other),
+        WatchFault::Lines => ToolFault::Write,
     }
 }
 

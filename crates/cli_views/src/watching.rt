@@ -3,20 +3,20 @@
 ghost use Rattle.std.specs.Prelude.{◌≡◌, ◌≤◌, ◌⊎◌, unwrap_or};
 ghost use Rattle.cli_inputs.specs.Reports.{Refuses, logs};
 ghost use Rattle.scan_cycle.specs.Standing.{Fits};
-ghost use Rattle.text_trace.specs.Simulation.{TellsReached, WatchesEvery};
+ghost use Rattle.text_trace.specs.Reached.{WatchesTold};
 ghost use Rattle.cli_inputs.specs.Setting.{IsSet, given_by, stimulus_records};
-ghost use Rattle.cli_views.specs.Views.{BreaksWatch, HasWatchFault, IsWatched};
+ghost use Rattle.cli_views.specs.Views.{BreaksWatch, HasWatchFault, IsWatched, WritesTrace, watch_fault};
 
 use crate::tracing::{save_state, stimulus};
 use crate::watched::watched_columns;
 use cli_arguments::WatchRequest;
 use cli_inputs::{Setting, Texts, ToolFault, read_setting, report};
-use io_text::Sink;
+use io_text::{CountedWriter, Sink};
 use std::alloc::Global;
-use text_trace::{Column, SimFault, Watched, watch as watch_scans};
+use text_trace::{Column, WatchFault, Watched, watch as watch_scans};
 
 /// Simulates the stimulus, and writes the trace with these columns beside the outputs.
-pub(crate) fn write_trace<O: Sink, E: Sink>(
+fn write_rows<O: Sink, E: Sink>(
     alloc: Global,
     request: &WatchRequest,
     columns: &[Column],
@@ -24,12 +24,11 @@ pub(crate) fn write_trace<O: Sink, E: Sink>(
     texts: &Texts,
     out: &mut O,
     err: &mut E,
-) -> Result<u64, SimFault>
+) -> Result<u64, WatchFault>
     requires { Fits setting.old.program setting.old.state }
     ensures fits { Fits setting.new.program setting.new.state }
     ensures program { setting.new.program ≡ setting.old.program }
-    ensures trace { WatchesEvery request.now.changes columns.now (unwrap_or request.now.sim.every 0) setting.old.program setting.old.state (stimulus_records (given_by texts.now)) setting.new.state (O.log out.old) (O.log out.new) result }
-    ensures told { TellsReached request.now.progress request.now.changes (unwrap_or request.now.sim.every 0) setting.old.program setting.old.state (stimulus_records (given_by texts.now)) setting.new.state (E.log err.old) (E.log err.new) result }
+    ensures trace { WatchesTold request.now.progress request.now.changes columns.now (unwrap_or request.now.sim.every 0) setting.old.program setting.old.state (stimulus_records (given_by texts.now)) setting.new.state (O.log out.old) (O.log out.new) (E.log err.old) (E.log err.new) result }
 {
     let watched = Watched {
         columns,
@@ -39,6 +38,38 @@ pub(crate) fn write_trace<O: Sink, E: Sink>(
     };
     let (program, state) = (&setting.program, &mut setting.state);
     watch_scans(alloc, program, watched, state, stimulus(texts), out, err)
+}
+
+/// The same, with nothing on `err` where no line is asked for that tells how far the simulation is.
+pub(crate) fn write_trace<O: Sink, E: Sink>(
+    alloc: Global,
+    request: &WatchRequest,
+    columns: &[Column],
+    setting: &mut Setting,
+    texts: &Texts,
+    out: &mut O,
+    err: &mut E,
+) -> Result<u64, WatchFault>
+    requires { Fits setting.old.program setting.old.state }
+    ensures fits { Fits setting.new.program setting.new.state }
+    ensures program { setting.new.program ≡ setting.old.program }
+    ensures trace { WritesTrace request.now.progress request.now.changes columns.now (unwrap_or request.now.sim.every 0) setting.old.program setting.old.state (stimulus_records (given_by texts.now)) setting.new.state (O.log out.old) (O.log out.new) (E.log err.old) (E.log err.new) result }
+{
+    if request.progress {
+        return write_rows(alloc, request, columns, setting, texts, out, err);
+    }
+    let mut unheard = CountedWriter::new(Vec::new(alloc));
+    write_rows(alloc, request, columns, setting, texts, out, &mut unheard)
+}
+
+/// The fault of a simulation, or of the writer of its lines.
+fn fault_of(fault: WatchFault) -> ToolFault
+    ensures { result ≡ watch_fault fault }
+{
+    match fault {
+        WatchFault::Sim(fault) => ToolFault::Sim(fault),
+        WatchFault::Lines => ToolFault::Write,
+    }
 }
 
 /// Simulates the stimulus from a state, and saves the one after the last scan where that is asked for.
@@ -66,7 +97,7 @@ fn watch_from<O: Sink, S: Sink, E: Sink>(
     };
     let run = write_trace(alloc, request, &columns, setting, texts, out, err);
     if let Err(fault) = run {
-        return report(texts, &ToolFault::Sim(fault), err);
+        return report(texts, &fault_of(fault), err);
     }
     let saves = request.sim.save.is_some();
     let Ok(()) = save_state(saves, &setting.program, &setting.state, save) else {
