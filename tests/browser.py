@@ -3,7 +3,7 @@
 
 For each program of examples/, in the fresh state with its inputs OFF and with all of them ON: the text that the browser has is that of
 the drawing, line by line, and a picture in the light and in the dark mode is made, which differ. For each stimulus with a trace: the page
-of its film has the drawing for each record and a button with its moment; at first it looks as if the first one were chosen, and shows
+of its film has the name of the program as title and heading, the drawing for each record and a button with its moment; at first it looks as if the first one were chosen, and shows
 another drawing where the last one is. Printed, each drawing is on one sheet, and no sheet has less than one. FOLDER gets the pages and
 pictures, to be looked at. Needs chromium; without it the test is passed over. What is printed is read by pdftotext, if it is installed.
 """
@@ -81,6 +81,8 @@ def film_faults(browser, program, words, stimulus, page):
     text, pages = page.read_text("ascii"), {"as it is": page}
     if WORDS.findall(text) != [f"{moment} ms" for moment in moments]:
         wrong.append("a moment isn't on its button")
+    if f"<title>{program.name}</title>" not in text or f"<h1>{program.name}</h1>" not in text:
+        wrong.append("the name of the program isn't title and heading")
     for name, (before, behind) in {"first": text.split(BUTTON, 1), "last": text.rsplit(BUTTON, 1)}.items():
         pages[name] = page.with_suffix(f".{name}.html")
         pages[name].write_text(f"{before}{BUTTON} checked{behind}", "ascii")

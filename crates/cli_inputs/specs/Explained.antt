@@ -1,5 +1,5 @@
 -- What is said of a fault: its line, and where it is explained its rule in words and, for a program text, the lines where it shows.
-use Rattle.std.specs.Prelude.{◌++◌, ℕ, Bool, true, false, List, Option, Some, None, codes}
+use Rattle.std.specs.Prelude.{◌++◌, ◌==◌, if◌then◌else◌, ℕ, Bool, true, false, List, Option, Some, None, codes}
 use Rattle.causes_query.specs.declared.fault.CauseFault.{CauseFault}
 use Rattle.causes_query.specs.declared.fault.CauseFault.TheVariants as cause
 use Rattle.diagram_reader.specs.declared.fault.GridFault.TheVariants.{Grid}
@@ -23,6 +23,12 @@ cause_sentence cause.RepeatedInput = codes "C5: an input is listed twice"
 cause_sentence cause.AfterOutOfRange = codes "C6: the listed inputs have no such number"
 cause_sentence cause.Memory = codes "C7: out of memory"
 
+-- of a record of a stimulus, of which the header is record 1
+abbrev pub bad_row_sentence : ℕ → List ℕ
+bad_row_sentence row =
+    if row == 1 then codes "X2: the header isn't the word moment and then names of inputs, none of them twice"
+    else codes "X2: the record isn't a moment in ms with a 0 or 1 for each name of the header, which is record 1"
+
 -- the sentence of a fault that shows in no program text
 abbrev pub sentence : ToolFault → List ℕ
 sentence (fault.Title f) = codes "A1: this alias is the name or the alias of another declaration"
@@ -37,7 +43,7 @@ sentence (fault.Word number) = codes "X3: the word names no variable; COIL is wo
 sentence (fault.Watched number) = codes "X3: the name is that of no variable and no instance; names that are watched are counted from 1"
 sentence fault.Both = codes "X3: the name of --both is that of no variable and of no block"
 -- the records of a simulation are counted from 1, the header included
-sentence (fault.Sim (sim.BadRow row)) = codes "X2: the record isn't a moment with a 0 or 1 for each name of the header, which is record 1"
+sentence (fault.Sim (sim.BadRow row)) = bad_row_sentence row
 sentence (fault.Sim (sim.UnknownName row)) = codes "X3: a name of the header isn't an input of this program"
 sentence (fault.Sim (sim.MomentBack row)) = codes "X4: the moment is before that of the record above it, or of the state; the header is record 1"
 sentence (fault.Sim (sim.TooLong row)) =

@@ -3,7 +3,7 @@
 ghost use Rattle.std.specs.Prelude.{◌≡◌, ◌≤◌, ◌++◌, codes, IfSome};
 ghost use Rattle.diagram_program.specs.declared.geometry.TheConstants.{COLUMNS};
 ghost use Rattle.io_text.specs.Log.{Puts};
-ghost use Rattle.cli_inputs.specs.Explained.{explained, report_by, report_of, sentence};
+ghost use Rattle.cli_inputs.specs.Explained.{bad_row_sentence, explained, report_by, report_of, sentence};
 
 use crate::fault::{ToolFault, cause_rule, write_line};
 use io_text::{Piece, ReadFault, Sink, WriteFault, put_pieces};
@@ -11,6 +11,17 @@ use search_differences::Side;
 use text_reasons::write_reason;
 use text_state::StateFault;
 use text_trace::SimFault;
+
+/// The sentence that explains a bad record of a stimulus, of which the header is record 1.
+fn bad_row_sentence(row: u64) -> &'static [u8]
+    ensures { result.now ≡ bad_row_sentence row }
+{
+    if row == 1 {
+        b"X2: the header isn't the word moment and then names of inputs, none of them twice"
+    } else {
+        b"X2: the record isn't a moment in ms with a 0 or 1 for each name of the header, which is record 1"
+    }
+}
 
 /// The sentence that explains a fault; on a program text `write_reason` says more.
 fn sentence(fault: ToolFault) -> &'static [u8]
@@ -34,9 +45,7 @@ fn sentence(fault: ToolFault) -> &'static [u8]
             b"X3: the name is that of no variable and no instance; names that are watched are counted from 1"
         }
         ToolFault::Both => { b"X3: the name of --both is that of no variable and of no block" }
-        ToolFault::Sim(SimFault::BadRow { .. }) => {
-            b"X2: the record isn't a moment with a 0 or 1 for each name of the header, which is record 1"
-        }
+        ToolFault::Sim(SimFault::BadRow { row }) => bad_row_sentence(row),
         ToolFault::Sim(SimFault::UnknownName { .. }) =>
             b"X3: a name of the header isn't an input of this program",
         ToolFault::Sim(SimFault::MomentBack { .. }) => {

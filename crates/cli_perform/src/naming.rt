@@ -106,6 +106,9 @@ fn tell_request<W: Sink>(alloc: Global, decls: &Decls, request: &Request, writer
         Request::Watch(watched) => {
             tell_first(alloc, decls, Wanted::Any, &watched.names, writer);
         }
+        Request::Expect(expect) => {
+            tell_first(alloc, decls, Wanted::Any, &expect.watch.names, writer);
+        }
         Request::Check { .. }
         | Request::Never(_)
         | Request::Sim(_)
