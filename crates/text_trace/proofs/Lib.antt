@@ -9,4 +9,5 @@ mod Plain
 mod SameAt
 mod Scanned
 mod Taking
+mod Telling
 mod Whole

@@ -1,5 +1,5 @@
 -- Two functions that have the same values at the elements of a list, and what a trace of changes has of two states.
-use Rattle.std.proofs.Common.{◌≡◌, ◌∙◌, ◌<◌, [], ℕ, suc, zero, Bool, true, false, List, Some, ap, arith, inl, inr, map, nat_eq, refl, slice_get, sym}
+use Rattle.std.proofs.Common.{◌≡◌, ◌∙◌, ◌<◌, [], ℕ, suc, zero, true, false, List, Some, ap, arith, inl, inr, map, nat_eq, refl, slice_get, sym}
 use Rattle.std.specs.Prelude.{option_map}
 use Rattle.std.proofs.lemmas.Cmp.{nat_eq_equiv}
 use Rattle.std.proofs.lemmas.Option.{same_Some, slice_get-map}

@@ -57,7 +57,7 @@ first_taken columns [] (suc k) taken f h = cc
 first_taken columns (r ∷ all) zero taken f h = (r, refl, h.0, h.1, h.2)
 first_taken columns (r ∷ all) (suc k) taken f h = first_taken columns all k taken f h
 
-one_taken : (columns : List ℕ) (all : List Numbered) (k : ℕ) (taken : Taken) (f : Filling) → Takes columns (drop k all) (Some taken) f
+pub one_taken : (columns : List ℕ) (all : List Numbered) (k : ℕ) (taken : Taken) (f : Filling) → Takes columns (drop k all) (Some taken) f
     → (r : Numbered) × (slice_get all k ≡ Some r) × (taken.number ≡ r.number) × Gives columns taken.moment (fields_of f.last) r.fields × Comes columns f (drop (k + 1) all)
 one_taken columns all k taken f h =
     let first = first_taken columns all k taken f h in
@@ -65,7 +65,7 @@ one_taken columns all k taken f h =
 
 -- ---- its fields, and its number in the file
 
-fields_at : (all : List Numbered) (i : ℕ) (r : Numbered) → slice_get all i ≡ Some r → slice_get (all_fields all) i ≡ Some r.fields
+pub fields_at : (all : List Numbered) (i : ℕ) (r : Numbered) → slice_get all i ≡ Some r → slice_get (all_fields all) i ≡ Some r.fields
 fields_at [] i r e = cc
 fields_at (a ∷ all) zero r e = ap (λ (x : Numbered). Some x.fields) (same_Some _ _ e)
 fields_at (a ∷ all) (suc i) r e = fields_at all i r e
@@ -88,7 +88,7 @@ unfolding Runs
 runs_within recorded p columns s rows zero text piece t ((r, here, good), none, same, start) = slice_get_within rows 0 r here
 runs_within recorded p columns s rows (suc k) text piece t (before, last, u, runs, cut, (r, here, step)) = slice_get_within rows (suc k) r here
 
-runs_more : (recorded : Recorded) (p : Drawing) (columns : List ℕ) (s : Standing) (rows : List Fields) (k : ℕ) (text piece more : List ℕ) (t u : Standing) (r : Fields)
+pub runs_more : (recorded : Recorded) (p : Drawing) (columns : List ℕ) (s : Standing) (rows : List Fields) (k : ℕ) (text piece more : List ℕ) (t u : Standing) (r : Fields)
     → Runs recorded p columns s rows k text piece t → slice_get rows (k + 1) ≡ Some r → IsStep recorded p columns k t r u more
     → Runs recorded p columns s rows (k + 1) (text ++ piece) more u
 unfolding Runs
@@ -118,7 +118,7 @@ going_more recorded p columns s t u all taken a b c number f g h takes steps =
 
 -- ---- how it ends
 
-was_taken : (recorded : Recorded) (p : Drawing) (columns : List ℕ) (s t u : Standing) (all : List Numbered) (a b c : WriteLog) (number : ℕ) (f : Filling)
+pub was_taken : (recorded : Recorded) (p : Drawing) (columns : List ℕ) (s t u : Standing) (all : List Numbered) (a b c : WriteLog) (number : ℕ) (f : Filling)
     → IsGoing recorded p columns s all number t a b f → number ≤ recorded.most → u ≡ t → c ≡ b → IsTaken recorded p s (all_fields all) number u a c
 was_taken recorded p columns s t u all a b c number f h few e g = record {
   course = record { columns = columns; text = h.text; piece = h.piece; runs = subst (Runs recorded p columns s (all_fields all) number h.text h.piece) (sym e) h.runs; few = few };

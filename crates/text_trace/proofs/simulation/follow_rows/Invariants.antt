@@ -6,7 +6,7 @@ use Rattle.io_text.specs.Log.{WriteLog}
 use Rattle.text_trace.specs.Coming.{IsSound}
 use Rattle.text_trace.specs.Filled.{Numbered}
 use Rattle.text_trace.specs.Room.{IsReady}
-use Rattle.text_trace.specs.Steps.{IsGoing, as_run}
+use Rattle.text_trace.specs.Steps.{IsGoing, as_lines, as_run}
 use Rattle.text_trace.proofs.simulation.follow_rows.Given as goal
 
 abbrev pub invariant-loop-done : goal.invariant-loop-done
@@ -19,3 +19,5 @@ invariant-loop-done g l =
     × ((all : List Numbered) (log : WriteLog) → IsGoing (as_run l.run) l.run.program.now l.columns l.fn.state all 0 l.fn.state log (g.W.Sink.log l.fn.writer) l.fn.filling
     → IsGoing (as_run l.run) l.run.program.now l.columns l.fn.state all l.done l.state log (g.W.Sink.log l.writer) l.filling)
     × IsTrueOf (diagram_of l.run.program.now) l.state.moment l.state.held l.room.resting
+    × ((all : List Numbered) (told : WriteLog) → IsGoing (as_lines l.run) l.run.program.now l.columns l.fn.state all 0 l.fn.state told (g.E.Sink.log l.fn.err) l.fn.filling
+    → IsGoing (as_lines l.run) l.run.program.now l.columns l.fn.state all l.done l.state told (g.E.Sink.log l.err) l.filling)
