@@ -28,5 +28,6 @@ pub use text_causes::{
 pub use text_cross_reference::write_uses;
 pub use text_state::{StateFault, read_state, write_state};
 pub use text_trace::{
-    Column, Film, SimFault, Watched, simulate, simulate_every, watch, write_film, write_waves,
+    Column, Film, SimFault, WatchFault, Watched, simulate, simulate_every, watch, write_film,
+    write_waves,
 };

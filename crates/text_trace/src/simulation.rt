@@ -327,6 +327,7 @@ fn tell<E: Sink>(lines: u64, done: u64, moment: u64, err: &mut E) -> Result<(), 
     requires { done < 2 ^ 64 - 1 }
     ensures told { Puts (E.log err.old) (E.log err.new) result (reached_piece lines done moment) }
     ensures asked { OnErr result (0 < lines) }
+    ensures untold { lines ≡ 0 → E.log err.new ≡ E.log err.old }
 {
     if lines == 0 || (done + 1) % lines > 0 {
         return Ok(());
@@ -361,6 +362,7 @@ fn follow_rows<W: Sink, E: Sink>(
         → IsGoing (as_run run.entry) run.entry.program.now columns.now state.old all 0 state.old log (W.log writer.old) filling.old
         → IsGoing (as_lines run.entry) run.entry.program.now columns.now state.old all 0 state.old told (E.log err.old) filling.old
         → EndsBoth (as_run run.entry) run.entry.lines run.entry.program.now state.old all state.new log (W.log writer.new) told (E.log err.new) result }
+    ensures untold { run.entry.lines ≡ 0 → E.log err.new ≡ E.log err.old }
 {
     let most = most(run);
     for done in 0..u64::MAX {
@@ -408,6 +410,7 @@ fn follow_records<W: Sink, E: Sink>(
     ensures fits { Fits run.entry.program.now state.new }
     ensures ends { (rows : List Fields) → Left filling.old.records rows
         → EndsBoth (as_run run.entry) run.entry.lines run.entry.program.now state.old (filled filling.old.every rows) state.new (W.log writer.old) (W.log writer.new) (E.log err.old) (E.log err.new) result }
+    ensures untold { run.entry.lines ≡ 0 → E.log err.new ≡ E.log err.old }
 {
     let Ok(found) = next(&mut filling.records, &mut filling.last) else {
         return Err(WatchFault::Sim(SimFault::Memory));
@@ -462,6 +465,7 @@ fn follow<W: Sink, E: Sink>(
     requires fits { Fits run.program.now state.old }
     ensures fits { Fits run.entry.program.now state.new }
     ensures ends { Reaches (as_asked run.entry.recording) run.entry.lines run.entry.every run.entry.program.now state.old (records_of stimulus.now) state.new (W.log writer.old) (W.log writer.new) (E.log err.old) (E.log err.new) result }
+    ensures untold { run.entry.lines ≡ 0 → E.log err.new ≡ E.log err.old }
 {
     let (alloc, program) = (run.alloc, run.program);
     let mut filling = filling_from(alloc, stimulus, run.every);
@@ -565,6 +569,7 @@ fn watch_whole<W: Sink, E: Sink>(
     requires { Fits program.now state.old }
     ensures fits { Fits program.now state.new }
     ensures ends { Reaches (as_watched watched.entry.columns.now) (each_of watched.entry.tells false) watched.entry.every program.now state.old (records_of stimulus.now) state.new (W.log writer.old) (W.log writer.new) (E.log err.old) (E.log err.new) result }
+    ensures untold { watched.entry.tells ≡ false → E.log err.new ≡ E.log err.old }
 {
     let run = Run {
         alloc,
@@ -590,6 +595,7 @@ fn watch_changes<W: Sink, E: Sink>(
     requires { Fits program.now state.old }
     ensures fits { Fits program.now state.new }
     ensures ends { Reaches (as_changes watched.entry.columns.now) (each_of watched.entry.tells true) watched.entry.every program.now state.old (records_of stimulus.now) state.new (W.log writer.old) (W.log writer.new) (E.log err.old) (E.log err.new) result }
+    ensures untold { watched.entry.tells ≡ false → E.log err.new ≡ E.log err.old }
 {
     let run = Run {
         alloc,
@@ -620,6 +626,7 @@ pub fn watch<W: Sink, E: Sink>(
     requires { Fits program.now state.old }
     ensures fits { Fits program.now state.new }
     ensures ends { WatchesTold watched.entry.tells watched.entry.changes watched.entry.columns.now watched.entry.every program.now state.old (records_of stimulus.now) state.new (W.log writer.old) (W.log writer.new) (E.log err.old) (E.log err.new) result }
+    ensures untold { watched.entry.tells ≡ false → E.log err.new ≡ E.log err.old }
 {
     match watched.changes {
         true => watch_changes(alloc, program, watched, state, stimulus, writer, err),

@@ -1,4 +1,4 @@
-use Rattle.std.proofs.Common.{◌≡◌, ◌+◌, ◌<◌, arith, drop, refl, subst}
+use Rattle.std.proofs.Common.{◌≡◌, ◌∙◌, ◌+◌, ◌<◌, arith, drop, refl, subst}
 use Rattle.text_trace.specs.Coming.{Takes}
 use Rattle.text_trace.specs.Steps.{as_lines, as_run}
 use Rattle.text_trace.proofs.Taking.{going_done, going_many, going_more, going_starved, going_stops}
@@ -23,6 +23,7 @@ loop-done-preserved g c =
           line_more (as_run c.args.run) c.args.run.lines c.args.run.program.now c.args.columns.now c.args.state.now c.loop-done.state c.step.new.state all c.in-Some.taken _ _ _ _ _ c.loop-done.done c.loop-done.filling c.take.new.filling
           h (subst (λ o. Takes c.args.columns.now (drop (c.loop-done.done + 1) all) o c.take.new.filling) c.in-Some.is (c.in-Ok.ensures.takes (drop (c.loop-done.done + 1) all) h.left)) ok.steps
           (rw c.moment.ensures at c.in-Ok-tell.ensures.told),
+      λ none. c.in-Ok-tell.ensures.untold none ∙ c.loop-done.invariant.8 none,
     )
 
 pub returns-in_default-clause-ends : goal.returns-in_default-clause-ends

@@ -1,4 +1,4 @@
-use Rattle.std.specs.Prelude.{◌≤◌, ◌+◌, List}
+use Rattle.std.specs.Prelude.{◌≡◌, ◌≤◌, ◌+◌, List}
 use Rattle.scan_incremental.specs.Resting.{IsTrueOf}
 use Rattle.scan_cycle.specs.Programs.{diagram_of}
 use Rattle.scan_cycle.specs.Standing.{Fits}
@@ -21,3 +21,4 @@ invariant-loop-done g l =
     × IsTrueOf (diagram_of l.run.program.now) l.state.moment l.state.held l.room.resting
     × ((all : List Numbered) (told : WriteLog) → IsGoing (as_lines l.run) l.run.program.now l.columns l.fn.state all 0 l.fn.state told (g.E.Sink.log l.fn.err) l.fn.filling
     → IsGoing (as_lines l.run) l.run.program.now l.columns l.fn.state all l.done l.state told (g.E.Sink.log l.err) l.filling)
+    × (l.run.lines ≡ 0 → g.E.Sink.log l.err ≡ g.E.Sink.log l.fn.err)
