@@ -23,8 +23,7 @@ use Rattle.text_trace.specs.declared.recording.Film.{Film}
 use Rattle.text_trace.specs.declared.fault.WatchFault.{WatchFault}
 use Rattle.text_trace.specs.declared.fault.WatchFault.TheVariants as watch
 use Rattle.text_trace.specs.Reached.{WatchesTold}
-use Rattle.text_trace.specs.Simulation.{Films, SimulatesEvery, WatchesEvery, WavesEvery}
-use Rattle.io_text.specs.Left.{Fields}
+use Rattle.text_trace.specs.Simulation.{Films, SimulatesEvery, WavesEvery}
 use Rattle.io_text.specs.Text.{lines_text}
 use Rattle.text_warnings.specs.Told.{Told}
 use Rattle.text_warnings.specs.Warnings.{warning_rows}
@@ -148,14 +147,8 @@ BreaksTrace g every saves old new =
 
 -- ---- a simulation with what is watched
 
--- A trace with these columns was written, whole or of changes, and on a second writer lines tell how far it was, or nothing.
-abbrev pub WritesTrace : Bool → Bool → List Column → ℕ → Drawing → Standing → List Fields → Standing → WriteLog → WriteLog → WriteLog → WriteLog → Result ℕ WatchFault → Type 0
-WritesTrace true changes columns every p s rows t out out' err err' end = WatchesTold true changes columns every p s rows t out out' err err' end
-WritesTrace false changes columns every p s rows t out out' err err' (Ok scans) = WatchesEvery changes columns every p s rows t out out' (Ok scans) × (err' ≡ err)
-WritesTrace false changes columns every p s rows t out out' err err' (Err (watch.Sim f)) = WatchesEvery changes columns every p s rows t out out' (Err f) × (err' ≡ err)
-WritesTrace false changes columns every p s rows t out out' err err' (Err watch.Lines) = ⊥
-
--- The stimulus was simulated so, with what is watched beside the outputs.
+-- The stimulus was simulated so, with what is watched beside the outputs, and with lines of how far it is on a second writer, where they are
+-- asked for.
 pub record Watches (g : Given) (r : WatchRequest) (out out' err err' : WriteLog) (end : Result ℕ WatchFault) (Saved : Drawing → Standing → Type 0) : Type 0 where
   pub program : Drawing
   pub before : Standing
@@ -163,7 +156,8 @@ pub record Watches (g : Given) (r : WatchRequest) (out out' err err' : WriteLog)
   pub columns : List Column
   pub set : IsSet g program before
   pub watched : AreColumns program.decls r.all (map string_bytes r.names.items) columns
-  pub trace : WritesTrace r.progress r.changes columns (unwrap_or r.sim.every 0) program before (stimulus_records g) after out out' err err' end
+  pub trace : WatchesTold r.progress r.changes columns (unwrap_or r.sim.every 0) program before (stimulus_records g) after out out' err err' end
+  pub untold : r.progress ≡ false → err' ≡ err
   pub saved : Saved program after
 
 -- Status 0: this trace of the whole stimulus was written, and nothing else on `err` than how far it was.

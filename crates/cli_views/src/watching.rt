@@ -1,46 +1,21 @@
 //! A request for the trace of a stimulus with what is watched beside its outputs, or of changes.
 
-ghost use Rattle.std.specs.Prelude.{◌≡◌, ◌≤◌, ◌⊎◌, unwrap_or};
+ghost use Rattle.std.specs.Prelude.{◌≡◌, ◌≤◌, ◌⊎◌, false, unwrap_or};
 ghost use Rattle.cli_inputs.specs.Reports.{Refuses, logs};
 ghost use Rattle.scan_cycle.specs.Standing.{Fits};
 ghost use Rattle.text_trace.specs.Reached.{WatchesTold};
 ghost use Rattle.cli_inputs.specs.Setting.{IsSet, given_by, stimulus_records};
-ghost use Rattle.cli_views.specs.Views.{BreaksWatch, HasWatchFault, IsWatched, WritesTrace, watch_fault};
+ghost use Rattle.cli_views.specs.Views.{BreaksWatch, HasWatchFault, IsWatched, watch_fault};
 
 use crate::tracing::{save_state, stimulus};
 use crate::watched::watched_columns;
 use cli_arguments::WatchRequest;
 use cli_inputs::{Setting, Texts, ToolFault, read_setting, report};
-use io_text::{CountedWriter, Sink};
+use io_text::Sink;
 use std::alloc::Global;
 use text_trace::{Column, WatchFault, Watched, watch as watch_scans};
 
-/// Simulates the stimulus, and writes the trace with these columns beside the outputs.
-fn write_rows<O: Sink, E: Sink>(
-    alloc: Global,
-    request: &WatchRequest,
-    columns: &[Column],
-    setting: &mut Setting,
-    texts: &Texts,
-    out: &mut O,
-    err: &mut E,
-) -> Result<u64, WatchFault>
-    requires { Fits setting.old.program setting.old.state }
-    ensures fits { Fits setting.new.program setting.new.state }
-    ensures program { setting.new.program ≡ setting.old.program }
-    ensures trace { WatchesTold request.now.progress request.now.changes columns.now (unwrap_or request.now.sim.every 0) setting.old.program setting.old.state (stimulus_records (given_by texts.now)) setting.new.state (O.log out.old) (O.log out.new) (E.log err.old) (E.log err.new) result }
-{
-    let watched = Watched {
-        columns,
-        changes: request.changes,
-        every: request.sim.every.unwrap_or(0),
-        tells: request.progress,
-    };
-    let (program, state) = (&setting.program, &mut setting.state);
-    watch_scans(alloc, program, watched, state, stimulus(texts), out, err)
-}
-
-/// The same, with nothing on `err` where no line is asked for that tells how far the simulation is.
+/// Simulates the stimulus, and writes the trace with these columns beside the outputs, and how far it is where that is asked for.
 pub(crate) fn write_trace<O: Sink, E: Sink>(
     alloc: Global,
     request: &WatchRequest,
@@ -53,13 +28,17 @@ pub(crate) fn write_trace<O: Sink, E: Sink>(
     requires { Fits setting.old.program setting.old.state }
     ensures fits { Fits setting.new.program setting.new.state }
     ensures program { setting.new.program ≡ setting.old.program }
-    ensures trace { WritesTrace request.now.progress request.now.changes columns.now (unwrap_or request.now.sim.every 0) setting.old.program setting.old.state (stimulus_records (given_by texts.now)) setting.new.state (O.log out.old) (O.log out.new) (E.log err.old) (E.log err.new) result }
+    ensures trace { WatchesTold request.now.progress request.now.changes columns.now (unwrap_or request.now.sim.every 0) setting.old.program setting.old.state (stimulus_records (given_by texts.now)) setting.new.state (O.log out.old) (O.log out.new) (E.log err.old) (E.log err.new) result }
+    ensures untold { request.now.progress ≡ false → E.log err.new ≡ E.log err.old }
 {
-    if request.progress {
-        return write_rows(alloc, request, columns, setting, texts, out, err);
-    }
-    let mut unheard = CountedWriter::new(Vec::new(alloc));
-    write_rows(alloc, request, columns, setting, texts, out, &mut unheard)
+    let watched = Watched {
+        columns,
+        changes: request.changes,
+        every: request.sim.every.unwrap_or(0),
+        tells: request.progress,
+    };
+    let (program, state) = (&setting.program, &mut setting.state);
+    watch_scans(alloc, program, watched, state, stimulus(texts), out, err)
 }
 
 /// The fault of a simulation, or of the writer of its lines.
