@@ -82,7 +82,11 @@ pub fn advise<E: Sink>(
 {
     match read_given_program(alloc, texts) {
         Ok(program) => tell(alloc, program.decls(), request, texts, err),
-        Err(fault) if is_memory(&fault) => Err(AdviceFault::Memory),
-        Err(_) => Ok(false),
+        Err(fault) => {
+            if is_memory(&fault) {
+                return Err(AdviceFault::Memory);
+            }
+            Ok(false)
+        }
     }
 }
