@@ -1,5 +1,5 @@
 -- The first item of a list that passes a test.
-use Rattle.std.proofs.Common.{◌≡◌, ◌++◌, ◌∷◌, [], Bool, true, false, List, Option, Some, None, cond, map, option_map, refl, sym}
+use Rattle.std.proofs.Common.{◌≡◌, ◌++◌, ◌∷◌, [], Bool, true, false, List, Some, None, cond, map, option_map, refl}
 use Rattle.std.specs.Prelude.{find}
 
 module _ {A B : Type 0} (p : B → Bool) (f : A → B) where

@@ -1,10 +1,10 @@
-use Rattle.std.proofs.Common.{◌≡◌, ◌∙◌, ◌+◌, ◌<◌, [], Ok, Err, true, false, ap, arith, drop, refl}
+use Rattle.std.proofs.Common.{◌≡◌, ◌∙◌, ◌+◌, [], Ok, Err, true, false, ap, arith, drop, refl}
 use Rattle.csv.specs.Records.{fields_of}
 use Rattle.diagram_declarations.specs.Decls.{names_of}
 use Rattle.cli_names.specs.declared.fault.AdviceFault.TheVariants as advice_fault
 use Rattle.cli_names.specs.Advice.{records_advice}
 use Rattle.cli_names.proofs.Passing.{none_read, one_read}
-use Rattle.cli_names.proofs.Telling.{goes_past, no_memory, no_names, no_records, nothing, record_passed, record_told, is_told, is_failed}
+use Rattle.cli_names.proofs.Telling.{goes_past, no_memory, no_records, nothing, record_passed, record_told, is_told, is_failed}
 use Rattle.cli_names.proofs.state.tell_records.Goals as goal
 
 pub returns-in-Ok-false : goal.returns-in-Ok-false

@@ -2,7 +2,6 @@ use Rattle.std.proofs.Common.{◌≡◌, ◌∙◌, [], ap, drop}
 use Rattle.diagram_declarations.specs.Decls.{names_of}
 use Rattle.io_text.specs.Text.{records_of}
 use Rattle.cli_names.specs.Advice.{records_advice}
-use Rattle.cli_names.specs.Steps.{PassesTwo}
 use Rattle.cli_names.proofs.Passing.{left_two, none_left}
 use Rattle.cli_names.proofs.Telling.{no_records, nothing}
 use Rattle.cli_names.proofs.state.tell_text.Goals as goal
