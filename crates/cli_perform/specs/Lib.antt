@@ -1,4 +1,5 @@
 pub mod Performs
+pub mod Advised
 pub mod Files
 pub mod Coils
 pub mod Telling

@@ -3,10 +3,11 @@
 ghost use Rattle.std.specs.Prelude.{◌≡◌, ◌≤◌, ◌⊎◌, IfErr, IfOk, option_map};
 ghost use Rattle.cli_perform.specs.Files.{AreRead, StopsAt, files};
 ghost use Rattle.cli_inputs.specs.Reports.{Refuses, logs, unread};
-ghost use Rattle.cli_perform.specs.Performs.{IsDone, IsFailed};
+ghost use Rattle.cli_perform.specs.Advised.{FailsAdvised};
+ghost use Rattle.cli_perform.specs.Performs.{IsDone};
 ghost use Rattle.cli_inputs.specs.Setting.{Given, given_by};
 
-use crate::performing::perform;
+use crate::advised::perform_advised;
 use cli_arguments::CommandLine;
 use cli_inputs::{TextKind, Texts, ToolFault, read_named, read_one, report_unread};
 use io_text::{Sink, Source};
@@ -82,6 +83,7 @@ pub(crate) fn read_texts<R: Source>(
 }
 
 /// Reads the texts of the request of a command line and performs it on them, as `perform` does. A text that can't be read is a fault, whose line is on `err`.
+/// Where a fault is explained, it is said after it which name is meant by one that names nothing.
 /// Returns the status: 0 where all was written, 1 where a fault stopped it.
 pub fn perform_files<R: Source, O: Sink, S: Sink, E: Sink>(
     alloc: Global,
@@ -98,11 +100,11 @@ pub fn perform_files<R: Source, O: Sink, S: Sink, E: Sink>(
     ensures failed { result ≡ 1 → Refuses (unread line.now.why) (StopsAt (files (R.log readers.old.program) (option_map R.log readers.old.state) (option_map R.log readers.old.stimulus) (option_map R.log readers.old.trace) (option_map R.log readers.old.hal)) (files (R.log readers.new.program) (option_map R.log readers.new.state) (option_map R.log readers.new.stimulus) (option_map R.log readers.new.trace) (option_map R.log readers.new.hal)))
         (logs (O.log out.old) (S.log save.old) (E.log err.old)) (logs (O.log out.new) (S.log save.new) (E.log err.new))
         ⊎ ((g : Given) × (g.why ≡ line.now.why) × (g.aliases ≡ line.now.aliases) × AreRead (files (R.log readers.old.program) (option_map R.log readers.old.state) (option_map R.log readers.old.stimulus) (option_map R.log readers.old.trace) (option_map R.log readers.old.hal)) g
-        × IsFailed line.now.request g (logs (O.log out.old) (S.log save.old) (E.log err.old)) (logs (O.log out.new) (S.log save.new) (E.log err.new))) }
+        × FailsAdvised line.now.request g (logs (O.log out.old) (S.log save.old) (E.log err.old)) (logs (O.log out.new) (S.log save.new) (E.log err.new))) }
 {
     match read_texts(alloc, line, readers) {
         Ok(texts) => {
-            let status = perform(alloc, &line.request, &texts, out, save, err);
+            let status = perform_advised(alloc, &line.request, &texts, out, save, err);
             drop(texts);
             status
         }

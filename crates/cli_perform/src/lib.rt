@@ -1,13 +1,13 @@
 //! What the program `ladder` does for a request: the files that it reads, the bytes on its outputs, and its status.
 #![tactic(auto)]
 
+mod advised;
 mod asking;
 mod coil;
 mod coils;
 mod difference_folder;
 mod files;
 mod folder;
-mod naming;
 mod opening;
 mod performing;
 mod program;

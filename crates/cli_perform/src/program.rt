@@ -4,7 +4,6 @@ ghost use Rattle.std.specs.Prelude.{◌≤◌};
 
 use crate::files::perform_files;
 use crate::folder::run_coils;
-use crate::naming::suggest;
 use crate::opening::{diff_readers_of, readers_of, two_readers_of};
 use crate::refusing::{NEVER, explain_faults, is_explained, refuse_words, report, write_usage};
 use crate::runs::run_runs;
@@ -349,9 +348,6 @@ fn run_with(
     drop(readers);
     opening.explain(line.why);
     drop(opening);
-    if status == 1 && line.why {
-        suggest(rt, alloc, line);
-    }
     status
 }
 

@@ -5,5 +5,5 @@ mod distance;
 mod meant;
 mod unknown;
 
-pub use meant::{Wanted, name_at, nearest};
+pub use meant::{Wanted, count_names, name_at, nearest};
 pub use unknown::{write_no_input, write_other, write_unknown};

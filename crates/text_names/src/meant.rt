@@ -1,8 +1,9 @@
 //! The declared name that is nearest to a word.
 
-ghost use Rattle.std.specs.Prelude.{◌≡◌, IfOk, length, map, nat_le};
+ghost use Rattle.std.specs.Prelude.{◌≡◌, ◌≤◌, ◌+◌, IfOk, length, map, nat_le};
 ghost use Rattle.std.specs.List.{list_all, range_with_len};
 ghost use Rattle.diagram_declarations.specs.Decls.{names_of};
+ghost use Rattle.diagram_declarations.specs.declared.limits.TheConstants.{MOST_INSTANCES, MOST_VARS};
 ghost use Rattle.text_names.specs.Nearest.{far_from, first_near, is_sought, name_at, nearest, nearest_of, wider};
 
 use crate::distance::distance;
@@ -26,8 +27,9 @@ pub enum Wanted {
 const FAR: usize = 1_000_000;
 
 /// How many names are declared.
-fn count_names(decls: &Decls) -> usize
-    ensures { result ≡ length (names_of decls.now) }
+pub fn count_names(decls: &Decls) -> usize
+    ensures value { result ≡ length (names_of decls.now) }
+    ensures most { result ≤ MOST_VARS + MOST_INSTANCES }
 {
     decls.vars().len() + decls.instances().len()
 }

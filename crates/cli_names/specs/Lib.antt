@@ -1,0 +1,3 @@
+pub mod Words
+pub mod Advice
+pub mod Steps
