@@ -45,7 +45,7 @@ CASES = [
     (["causes", "--grouped", "--after", "1", "motor.ld", "Motor"], 2, "fault usage\n", "usage: --grouped excludes --after\n"),
     (["causes", "motor.ld"], 2, "fault usage\n", "usage: causes FILE wants COIL or --all-coils\n"),
     (["explain", "Z9"], 2, "fault usage\n", "usage: there is no fault Z9; `ladder explain` lists all\n"),
-    (["sim", "--save", "motor.ld", "motor.ld", "stimulus.csv"], 2, "fault usage\n", "usage: --save would replace the program, the stimulus, or the file that standard output goes to\n"),
+    (["sim", "--save", "motor.ld", "motor.ld", "stimulus.csv"], 2, "fault usage\n", "usage: --save would replace the program, the stimulus, the expected trace, or the file that standard output goes to\n"),
     (["chekc", "motor.ld"], 2, "fault usage\n", "  tip: a similar subcommand exists: 'check'\n"),
     (["check", "--wran", "motor.ld"], 2, "fault usage\n", "  tip: a similar argument exists: '--warn'\n"),
     ([], 2, "fault usage\n", "Usage: ladder <COMMAND>\n"),

@@ -3,7 +3,7 @@
 pub(crate) const X1: &str = "\
 X1: a file can't be read
 
-It isn't there, it is a folder, or reading it failed. The fault's word tells which file: `program` (of `import` the project), `state`, `stimulus` or `hal`.
+It isn't there, it is a folder, or reading it failed. The fault's word tells which file: `program` (of `import` the project), `state`, `stimulus`, `trace` (that of `--expect`) or `hal`.
 
 ```console
 $ ladder check moter.ld
@@ -122,7 +122,7 @@ moment,Motor,Lamp
 pub(crate) const X5: &str = "\
 X5: a text is too long
 
-A program, a project, a state and a HAL file have at most 1,048,576 bytes, a stimulus 16,777,216 bytes (`fault X5 stimulus`) and 1,000,000 records after its header (`fault X5 row 1000002`); one that `show --stimulus` shows has 1,000 (`fault X5 row 1002`). With `sim --every` there are at most 10,000,000,000 scans, those between the records included; the row is the record before which the limit is reached.
+A program, a project, a state and a HAL file have at most 1,048,576 bytes, a stimulus and a trace of `--expect` 16,777,216 bytes (`fault X5 stimulus`, `fault X5 trace`), and a stimulus 1,000,000 records after its header (`fault X5 row 1000002`); one that `show --stimulus` shows has 1,000 (`fault X5 row 1002`). With `sim --every` there are at most 10,000,000,000 scans, those between the records included; the row is the record before which the limit is reached.
 
 ```console
 $ { cat motor.ld; yes '' | head -c 1048576; } > long.ld

@@ -69,7 +69,7 @@ The status is 2. A subcommand, a file, a coil or a name is missing, an option is
 
 | | Wants | Excludes |
 |---|---|---|
-| `--vcd` |  | `--save`, `--watch`, `--watch-all`, `--changes` |
+| `--vcd` |  | `--save`, `--watch`, `--watch-all`, `--changes`, `--expect`, `--progress` |
 | `--watch-all` |  | `--watch` |
 
 `ladder never`:
@@ -92,7 +92,7 @@ The status is 2. A subcommand, a file, a coil or a name is missing, an option is
 | `--control` | `--control on` |  |
 
 
-Numbers have their ranges: `--every` of `sim` and `reach`, `--scans` of `reach`, `--looks` and `--states` are at least 1, and the last two at most 4294967295. `explain` has a page for each code alone. With `--all-coils` no COIL is named: what comes after FILE is an INPUT. `--save` of `sim` may replace the state that is read, but not the program, the stimulus, or the file that standard output goes to; `--all-coils` doesn't replace the program or the state, and `--save` of `diff`, which is a folder, no program.
+Numbers have their ranges: `--every` of `sim` and `reach`, `--scans` of `reach`, `--looks` and `--states` are at least 1, and the last two at most 4294967295. `explain` has a page for each code alone. With `--all-coils` no COIL is named: what comes after FILE is an INPUT. `--save` of `sim` may replace the state that is read, but not the program, the stimulus, the trace of `--expect`, or the file that standard output goes to; `--all-coils` doesn't replace the program or the state, and `--save` of `diff`, which is a folder, no program.
 
 ```console
 $ ladder causes motor.ld
