@@ -181,6 +181,8 @@ STATE = ["causes", "--state", "state.csv", "motor.ld", "Motor"]
 SAVED = b"version,2\nmoment,0\nvar,Start,1\nvar,Stop,0\nvar,Motor,1\n"
 TRACE = b"moment,Motor\n0,1\n"
 ONE = b"moment,Start,Stop\n0,1,0\n"
+# the program as the stimulus is read, and found bad, behind the trace
+EXPECT = ["sim", "--expect", "trace.csv", "motor.ld", "motor.ld"]
 EVERY = ["sim", "--every", "1", "motor.ld", "stimulus.csv"]
 FILM = ["show", "--stimulus", "stimulus.csv", "motor.ld"]
 DRAWN = b"""\
@@ -203,6 +205,8 @@ SPECIAL = {
     "show/film/a-record-too-many": long_texts(FILM, "stimulus.csv", b"moment\n" + b"0\n" * 1001, (DRAWN * 1000, b"fault X5 row 1002\n", 1)),
     "sim/stimulus/longest": long_texts(SIM, "stimulus.csv", b"moment\n".ljust(16777216, b"\n"), (b"moment,Motor\n", b"", 0)),
     "sim/stimulus/too-long": long_texts(SIM, "stimulus.csv", b"moment\n".ljust(16777217, b"\n"), (b"", b"fault X5 stimulus\n", 1)),
+    "sim/expect/longest": long_texts(EXPECT, "trace.csv", b"moment\n".ljust(16777216, b"\n"), (b"", b"fault X2 stimulus row 1\n", 1)),
+    "sim/expect/too-long": long_texts(EXPECT, "trace.csv", b"moment\n".ljust(16777217, b"\n"), (b"", b"fault X5 trace\n", 1)),
     "state/of-the-most-bytes": long_texts(STATE, "state.csv", SAVED.ljust(1048576, b"\n"), (b"number\n0\n", b"rows 1 looks 1\n", 0)),
     "state/too-long": long_texts(STATE, "state.csv", SAVED.ljust(1048577, b"\n"), (b"", b"fault X5 state\n", 1)),
     "streams/saved-state-on-a-full-device": long_texts(["sim", "--save", "/dev/full", *SIM[1:]], "stimulus.csv", ONE, (TRACE, b"fault X6\n", 1)),
