@@ -145,8 +145,15 @@ def program_from_standard_input(program, folder):
     return differences(have, run(program, CAUSES, folder))
 
 
+def advice_on_standard_input(program, folder):
+    """A word that names nothing in such a program is told with the name that is nearest."""
+    with open(HERE / "programs" / "motor.ld", "rb") as stream:
+        _, said, status = run(program, ["causes", "--why", "-", "Moter"], folder, stdin=stream)
+    return differences((said.splitlines()[-1], status), (b"\"Moter\" isn't declared; did you mean Motor?", 1))
+
+
 def stimulus_from_a_pipe(program, folder):
-    """So is a stimulus that comes through a pipe."""
+    """A stimulus may come through a pipe."""
     shutil.copy(HERE / "programs" / "motor.ld", folder)
     reader, writer = os.pipe()
     os.write(writer, ONE)
@@ -215,6 +222,7 @@ SPECIAL = {
     "streams/rows-on-a-pipe-closed-after-a-line": pipe_closed_after_a_line,
     "streams/saved-state-over-the-program": long_texts(["sim", "--save", "motor.ld", *SIM[1:]], "stimulus.csv", ONE, (b"", b"fault usage\n", 2)),
     "streams/program-from-standard-input": program_from_standard_input,
+    "streams/advice-on-standard-input": advice_on_standard_input,
     "streams/stimulus-from-a-pipe": stimulus_from_a_pipe,
     "streams/sim-without-input": sim_with_closed_streams([0], (TRACE, b"", 0), SAVED),
     "streams/sim-without-output": sim_with_closed_streams([1], (b"", b"fault X6\n", 1), b""),

@@ -1,4 +1,4 @@
-use Rattle.std.proofs.Common.{ap, arith, length, refl}
+use Rattle.std.proofs.Common.{ap, arith, length}
 use Rattle.text_names.proofs.meant.count_names.Goals as goal
 
 pub returns-clause-most : goal.returns-clause-most
