@@ -25,7 +25,7 @@ const LABEL: GridFault = GridFault::Grid {
     line: 14,
 };
 
-const LINES: [(ToolFault, &[u8]); 19] = [
+const LINES: [(ToolFault, &[u8]); 20] = [
     (
         ToolFault::Grid(GridFault::Vars(DUPLICATE)),
         b"fault V4 line 7\n",
@@ -44,6 +44,10 @@ const LINES: [(ToolFault, &[u8]); 19] = [
     (
         ToolFault::Read(TextKind::Stimulus, ReadFault::Read),
         b"fault X1 stimulus\n",
+    ),
+    (
+        ToolFault::Read(TextKind::Trace, ReadFault::TooLong),
+        b"fault X5 trace\n",
     ),
     (ToolFault::State(StateFault::Memory), b"fault X7\n"),
     (

@@ -25,28 +25,52 @@ const PROGRAM: usize = 1_048_576;
 
 const STIMULUS: usize = 16_777_216;
 
-/// The texts of a program, a state and a stimulus, and the line of the first that can't be read, or of the program's fault.
-type Row = ([Text; 3], &'static [u8]);
+/// The texts of a program, a state, a stimulus and an expected trace, and the line of the first that can't be read, or of the program's fault.
+type Row = ([Text; 4], &'static [u8]);
 
-const FAULTS: [Row; 9] = [
-    ([(8, 1), (8, 1), (8, 1)], b"fault X1 program\n"),
-    ([(8, 2), (8, 0), (8, 0)], b"fault X1 program\n"),
-    ([(PROGRAM + 1, 0), (8, 1), (8, 1)], b"fault X5 program\n"),
-    ([(PROGRAM, 0), (8, 1), (8, 1)], b"fault X1 state\n"),
-    ([(8, 0), (8, 2), (STIMULUS + 1, 0)], b"fault X1 state\n"),
-    ([(8, 0), (PROGRAM + 1, 0), (8, 1)], b"fault X5 state\n"),
-    ([(8, 0), (PROGRAM, 0), (8, 1)], b"fault X1 stimulus\n"),
-    ([(8, 0), (8, 0), (STIMULUS + 1, 0)], b"fault X5 stimulus\n"),
-    ([(8, 0), (8, 0), (STIMULUS, 0)], b"fault V2 line 1\n"),
+const FAULTS: [Row; 11] = [
+    ([(8, 1), (8, 1), (8, 1), (8, 1)], b"fault X1 program\n"),
+    ([(8, 2), (8, 0), (8, 0), (8, 0)], b"fault X1 program\n"),
+    (
+        [(PROGRAM + 1, 0), (8, 1), (8, 1), (8, 1)],
+        b"fault X5 program\n",
+    ),
+    ([(PROGRAM, 0), (8, 1), (8, 1), (8, 0)], b"fault X1 state\n"),
+    (
+        [(8, 0), (8, 2), (STIMULUS + 1, 0), (8, 1)],
+        b"fault X1 state\n",
+    ),
+    (
+        [(8, 0), (PROGRAM + 1, 0), (8, 1), (8, 1)],
+        b"fault X5 state\n",
+    ),
+    (
+        [(8, 0), (PROGRAM, 0), (8, 1), (8, 1)],
+        b"fault X1 stimulus\n",
+    ),
+    (
+        [(8, 0), (8, 0), (STIMULUS + 1, 0), (8, 1)],
+        b"fault X5 stimulus\n",
+    ),
+    ([(8, 0), (8, 0), (8, 0), (8, 2)], b"fault X1 trace\n"),
+    (
+        [(8, 0), (8, 0), (STIMULUS, 0), (STIMULUS + 1, 0)],
+        b"fault X5 trace\n",
+    ),
+    (
+        [(8, 0), (8, 0), (STIMULUS, 0), (8, 0)],
+        b"fault V2 line 1\n",
+    ),
 ];
 
-/// The readers of the three texts of a simulation.
-fn readers(texts: [Text; 3]) -> Readers<CountedReader<Hashes>> {
-    let [program, state, stimulus] = texts;
+/// The readers of the texts of a simulation.
+fn readers(texts: [Text; 4]) -> Readers<CountedReader<Hashes>> {
+    let [program, state, stimulus, trace] = texts;
     Readers {
         program: hashes(program),
         state: Some(hashes(state)),
         stimulus: Some(hashes(stimulus)),
+        trace: Some(hashes(trace)),
         hal: None,
     }
 }
@@ -89,7 +113,7 @@ fn simulation(alloc: Global) -> Result<CommandLine, AllocError> {
 }
 
 /// What a simulation over these texts leaves.
-fn left(alloc: Global, texts: [Text; 3], line: &[u8]) -> Result<Left, AllocError> {
+fn left(alloc: Global, texts: [Text; 4], line: &[u8]) -> Result<Left, AllocError> {
     let asked = simulation(alloc)?;
     let mut readers = readers(texts);
     Ok(performed(alloc, &asked, &mut readers, line))
