@@ -19,7 +19,12 @@ use Rattle.io_text.specs.Text.{records_of}
 use Rattle.text_trace.specs.declared.column.Column.{Column}
 use Rattle.text_trace.specs.declared.fault.SimFault.{SimFault}
 use Rattle.text_trace.specs.declared.recording.Film.{Film}
-use Rattle.text_trace.specs.Simulation.{Films, SimulatesEvery, WatchesEvery, WavesEvery}
+use Rattle.text_trace.specs.declared.fault.WatchFault.{WatchFault}
+use Rattle.text_trace.specs.Reached.{WatchesTold}
+use Rattle.text_trace.specs.Simulation.{Films, SimulatesEvery, WavesEvery}
+use Rattle.text_expected.specs.Expected.{Compares}
+use Rattle.text_expected.specs.declared.fault.ExpectFault.{ExpectFault}
+use Rattle.io_text.specs.Left.{Fields}
 
 -- The coil's rule comes first.
 pub coil_first : (v : ShowRequest) (p : Drawing) (s : Standing) (coil : Option ℕ) (listed : List ℕ) (f : CauseFault) → coil_refusal p coil ≡ Some f
@@ -61,6 +66,15 @@ pub same_waves : (every other : ℕ) (p : Drawing) (s t : Standing) (a b : List 
     → WavesEvery every p s (records_of a) t old new r → WavesEvery other p s (records_of b) t old new r
 same_waves every other p s t a b old new r e f h = rw (← f) (rw e at h)
 
-pub same_watched : (changes : Bool) (columns others : List Column) (every other : ℕ) (p : Drawing) (s t : Standing) (a b : List ℕ) (old new : WriteLog) (r : Result ℕ SimFault) → columns ≡ others → a ≡ b
-    → every ≡ other → WatchesEvery changes columns every p s (records_of a) t old new r → WatchesEvery changes others other p s (records_of b) t old new r
-same_watched changes columns others every other p s t a b old new r c e f h = rw (← c, ← f) (rw e at h)
+pub same_columns : (tells changes : Bool) (columns others : List Column) (every : ℕ) (p : Drawing) (s t : Standing) (rows : List Fields) (out out' err err' : WriteLog)
+    (end : Result ℕ WatchFault) → others ≡ columns → WatchesTold tells changes others every p s rows t out out' err err' end
+    → WatchesTold tells changes columns every p s rows t out out' err err' end
+same_columns tells changes columns others every p s t rows out out' err err' end e h =
+    subst (λ (xs : List Column). WatchesTold tells changes xs every p s rows t out out' err err' end) e h
+
+pub same_compared : (a b c d : List ℕ) (old new : WriteLog) (r q : Result Bool ExpectFault) → a ≡ b → c ≡ d → r ≡ q
+    → Compares (records_of a) (records_of c) old new r → Compares (records_of b) (records_of d) old new q
+same_compared a b c d old new r q e f k h =
+    subst (λ (x : Result Bool ExpectFault). Compares (records_of b) (records_of d) old new x) k
+    (subst (λ (x : List ℕ). Compares (records_of b) (records_of x) old new r) f
+    (subst (λ (x : List ℕ). Compares (records_of x) (records_of c) old new r) e h))

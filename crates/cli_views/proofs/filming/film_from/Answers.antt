@@ -1,7 +1,8 @@
-use Rattle.std.proofs.Common.{Err, Ok, sym, refl, inl, inr, ◌∙◌}
+use Rattle.std.proofs.Common.{Err, Ok, ap, sym, refl, inl, inr, ◌∙◌}
 use Rattle.cli_inputs.specs.declared.fault.ToolFault.TheVariants as fault
 use Rattle.cli_inputs.specs.Setting.{given_by}
 use Rattle.text_trace.specs.declared.recording.Film.{Film}
+use Rattle.cli_views.specs.Views.{title_for}
 use Rattle.cli_views.proofs.Endings.{same_film}
 use Rattle.cli_views.proofs.Plain.{drawn_plain}
 use Rattle.cli_views.proofs.filming.film_from.Goals as goal
@@ -41,7 +42,7 @@ returns-in-Some-clause-failed g c = λ save status.
 
 pub returns-in-Ok-write_film-clause-done : goal.returns-in-Ok-write_film-clause-done
 returns-in-Ok-write_film-clause-done g c = λ status.
-    let film : Film = record { style = c.styles_of.result.frame; text = c.deref.result; coil = c.in-Ok.asked.coil } in (
+    let film : Film = record { style = c.styles_of.result.frame; title = c.as_bytes.result; text = c.deref.result; coil = c.in-Ok.asked.coil } in (
       (
         c.in-Ok-write_film.field-0,
         record {
@@ -53,7 +54,7 @@ returns-in-Ok-write_film-clause-done g c = λ status.
           explained = rw c.decls.ensures at c.in-Ok.ensures.coil;
           accepted = sym c.coil_refusal.ensures ∙ c.in-None.is;
           film = film;
-          is = record { drawn = c.styles_of.ensures.frame; described = c.deref.ensures.value; explained = refl };
+          is = record { drawn = c.styles_of.ensures.frame; titled = c.as_bytes.ensures.value ∙ c.title_of.ensures ∙ ap title_for c.as_str.ensures.value; described = c.deref.ensures.value; explained = refl };
           shown = same_film film c.args.program.now c.args.state.now c.write_film.new.state _ _ (g.O.Sink.log c.args.out.now) (g.O.Sink.log c.write_film.new.writer) (Ok c.in-Ok-write_film.field-0) c.stimulus.ensures
               c.in-Ok-write_film.ensures.ends;
         },
@@ -63,7 +64,7 @@ returns-in-Ok-write_film-clause-done g c = λ status.
 
 pub returns-clause-failed : goal.returns-clause-failed
 returns-clause-failed g c = λ save status.
-    let film : Film = record { style = c.styles_of.result.frame; text = c.deref.result; coil = c.in-Ok.asked.coil } in
+    let film : Film = record { style = c.styles_of.result.frame; title = c.as_bytes.result; text = c.deref.result; coil = c.in-Ok.asked.coil } in
     inr (
       c.in-Err-write_film.fault,
       record {
@@ -75,7 +76,7 @@ returns-clause-failed g c = λ save status.
         explained = rw c.decls.ensures at c.in-Ok.ensures.coil;
         accepted = sym c.coil_refusal.ensures ∙ c.in-None.is;
         film = film;
-        is = record { drawn = c.styles_of.ensures.frame; described = c.deref.ensures.value; explained = refl };
+        is = record { drawn = c.styles_of.ensures.frame; titled = c.as_bytes.ensures.value ∙ c.title_of.ensures ∙ ap title_for c.as_str.ensures.value; described = c.deref.ensures.value; explained = refl };
         shown = same_film film c.args.program.now c.args.state.now c.write_film.new.state _ _ (g.O.Sink.log c.args.out.now) (g.O.Sink.log c.write_film.new.writer) (Err c.in-Err-write_film.fault) c.stimulus.ensures
             c.in-Err-write_film.ensures.ends;
       },

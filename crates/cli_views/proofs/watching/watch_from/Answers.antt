@@ -1,12 +1,13 @@
-use Rattle.std.proofs.Common.{◌∙◌, Err, Ok, refl, inl, inr, sym}
-use Rattle.cli_views.proofs.Endings.{same_watched}
+use Rattle.std.proofs.Common.{◌∙◌, Err, Ok, unwrap_or, refl, inl, inr, sym}
+use Rattle.cli_inputs.specs.Setting.{given_by, stimulus_records}
+use Rattle.cli_views.proofs.Endings.{same_columns}
 use Rattle.cli_views.proofs.watching.watch_from.Goals as goal
 
 pub returns-in-Err-clause-failed : goal.returns-in-Err-clause-failed
 returns-in-Err-clause-failed g c = λ status.
     inl (record {
       reason = c.in-Err.fault;
-      has = inr (c.args.setting.now.program, c.args.setting.now.state, c.requires.set, rw (c.decls.ensures, c.deref.ensures.value) at c.in-Err.ensures.fault);
+      has = inr (c.args.setting.now.program, c.args.setting.now.state, c.requires.set, rw (c.decls-decls.ensures, c.deref.ensures.value) at c.in-Err.ensures.fault);
       unwritten = refl {a = g.O.Sink.log c.args.out.now};
       unsaved = refl {a = g.S.Sink.log c.args.save.now};
       reported = c.report.ensures.line;
@@ -15,32 +16,40 @@ returns-in-Err-clause-failed g c = λ status.
 pub returns-in-Err-run-clause-failed : goal.returns-in-Err-run-clause-failed
 returns-in-Err-run-clause-failed g c = λ status. inr (inl (
   c.in-Err-run.fault,
+  g.E.Sink.log c.write_trace-run.new.err,
   record {
     program = c.args.setting.now.program;
     before = c.args.setting.now.state;
-    after = c.watch-run.new.state;
+    after = c.write_trace-run.new.setting.state;
     columns = c.in-Ok.columns.items;
     set = c.requires.set;
-    watched = rw (c.decls.ensures, c.deref.ensures.value) at c.in-Ok.ensures.ok;
-    trace = same_watched c.args.request.now.changes _ _ _ _ c.args.setting.now.program c.args.setting.now.state c.watch-run.new.state _ _ (g.O.Sink.log c.args.out.now) (g.O.Sink.log c.watch-run.new.writer) (Err c.in-Err-run.fault) c.deref-2.ensures.value c.stimulus.ensures c.unwrap_or-every.ensures c.in-Err-run.ensures.ends;
+    watched = rw (c.decls-decls.ensures, c.deref.ensures.value) at c.in-Ok.ensures.ok;
+    trace = same_columns c.args.request.now.progress c.args.request.now.changes c.in-Ok.columns.items c.deref-2.result.now (unwrap_or c.args.request.now.sim.every 0) c.args.setting.now.program c.args.setting.now.state
+        c.write_trace-run.new.setting.state (stimulus_records (given_by c.args.texts.now)) (g.O.Sink.log c.args.out.now) (g.O.Sink.log c.write_trace-run.new.out) (g.E.Sink.log c.args.err.now) (g.E.Sink.log c.write_trace-run.new.err)
+        (Err c.in-Err-run.fault) c.deref-2.ensures.value c.in-Err-run.ensures.trace;
+    untold = c.in-Err-run.ensures.untold;
     saved = refl;
   },
-  c.report-in-Err-run.ensures.line,
+  rw c.fault_of.ensures at c.report-in-Err-run.ensures.line,
 ))
 
 pub returns-in_default-save_state-clause-failed : goal.returns-in_default-save_state-clause-failed
 returns-in_default-save_state-clause-failed g c = λ status. inr (inr (
   c.in_default.field-0,
+  g.E.Sink.log c.write_trace-run.new.err,
   sym c.is_some-saves.ensures ∙ c.in_default-save_state.ensures.asked,
   record {
     program = c.args.setting.now.program;
     before = c.args.setting.now.state;
-    after = c.watch-run.new.state;
+    after = c.write_trace-run.new.setting.state;
     columns = c.in-Ok.columns.items;
     set = c.requires.set;
-    watched = rw (c.decls.ensures, c.deref.ensures.value) at c.in-Ok.ensures.ok;
-    trace = same_watched c.args.request.now.changes _ _ _ _ c.args.setting.now.program c.args.setting.now.state c.watch-run.new.state _ _ (g.O.Sink.log c.args.out.now) (g.O.Sink.log c.watch-run.new.writer) (Ok c.in_default.field-0) c.deref-2.ensures.value c.stimulus.ensures c.unwrap_or-every.ensures c.in_default.ensures.ends;
-    saved = c.in_default-save_state.ensures.broken;
+    watched = rw (c.decls-decls.ensures, c.deref.ensures.value) at c.in-Ok.ensures.ok;
+    trace = same_columns c.args.request.now.progress c.args.request.now.changes c.in-Ok.columns.items c.deref-2.result.now (unwrap_or c.args.request.now.sim.every 0) c.args.setting.now.program c.args.setting.now.state
+        c.write_trace-run.new.setting.state (stimulus_records (given_by c.args.texts.now)) (g.O.Sink.log c.args.out.now) (g.O.Sink.log c.write_trace-run.new.out) (g.E.Sink.log c.args.err.now) (g.E.Sink.log c.write_trace-run.new.err)
+        (Ok c.in_default.field-0) c.deref-2.ensures.value c.in_default.ensures.trace;
+    untold = c.in_default.ensures.untold;
+    saved = rw c.in_default.ensures.program at c.in_default-save_state.ensures.broken;
   },
   c.report-in_default-save_state.ensures.line,
 ))
@@ -51,12 +60,14 @@ returns-clause-done g c = λ status. (
   record {
     program = c.args.setting.now.program;
     before = c.args.setting.now.state;
-    after = c.watch-run.new.state;
+    after = c.write_trace-run.new.setting.state;
     columns = c.in-Ok.columns.items;
     set = c.requires.set;
-    watched = rw (c.decls.ensures, c.deref.ensures.value) at c.in-Ok.ensures.ok;
-    trace = same_watched c.args.request.now.changes _ _ _ _ c.args.setting.now.program c.args.setting.now.state c.watch-run.new.state _ _ (g.O.Sink.log c.args.out.now) (g.O.Sink.log c.watch-run.new.writer) (Ok c.in_default.field-0) c.deref-2.ensures.value c.stimulus.ensures c.unwrap_or-every.ensures c.in_default.ensures.ends;
-    saved = rw c.is_some-saves.ensures at c.in-Ok-save_state.ensures.saved;
+    watched = rw (c.decls-decls.ensures, c.deref.ensures.value) at c.in-Ok.ensures.ok;
+    trace = same_columns c.args.request.now.progress c.args.request.now.changes c.in-Ok.columns.items c.deref-2.result.now (unwrap_or c.args.request.now.sim.every 0) c.args.setting.now.program c.args.setting.now.state
+        c.write_trace-run.new.setting.state (stimulus_records (given_by c.args.texts.now)) (g.O.Sink.log c.args.out.now) (g.O.Sink.log c.write_trace-run.new.out) (g.E.Sink.log c.args.err.now) (g.E.Sink.log c.write_trace-run.new.err)
+        (Ok c.in_default.field-0) c.deref-2.ensures.value c.in_default.ensures.trace;
+    untold = c.in_default.ensures.untold;
+    saved = rw (c.in_default.ensures.program, c.is_some-saves.ensures) at c.in-Ok-save_state.ensures.saved;
   },
-  refl,
 )
