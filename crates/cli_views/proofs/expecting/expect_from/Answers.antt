@@ -53,8 +53,8 @@ returns-in-Ok-false-clause-failed g c = λ status. inr (inr (inl (
       set = c.requires.set;
       watched = rw (c.decls-decls.ensures, c.deref.ensures.value) at c.in-Ok.ensures.ok;
       trace = same_columns c.args.request.now.watch.progress c.args.request.now.watch.changes c.in-Ok.columns.items c.deref-2.result.now (unwrap_or c.args.request.now.watch.sim.every 0) c.args.setting.now.program c.args.setting.now.state
-        c.write_trace-run.new.setting.state (stimulus_records (given_by c.args.texts.now)) _ _ (g.E.Sink.log c.args.err.now) (g.E.Sink.log c.write_trace-run.new.err)
-        (Ok c.in_default.field-0) c.deref-2.ensures.value c.in_default.ensures.trace;
+          c.write_trace-run.new.setting.state (stimulus_records (given_by c.args.texts.now)) _ _ (g.E.Sink.log c.args.err.now) (g.E.Sink.log c.write_trace-run.new.err)
+          (Ok c.in_default.field-0) c.deref-2.ensures.value c.in_default.ensures.trace;
       untold = c.in_default.ensures.untold;
       saved = refl;
     };
@@ -82,8 +82,8 @@ returns-in-Err-write_difference-clause-failed g c = λ status. inr (inr (inr (in
         set = c.requires.set;
         watched = rw (c.decls-decls.ensures, c.deref.ensures.value) at c.in-Ok.ensures.ok;
         trace = same_columns c.args.request.now.watch.progress c.args.request.now.watch.changes c.in-Ok.columns.items c.deref-2.result.now (unwrap_or c.args.request.now.watch.sim.every 0) c.args.setting.now.program c.args.setting.now.state
-        c.write_trace-run.new.setting.state (stimulus_records (given_by c.args.texts.now)) _ _ (g.E.Sink.log c.args.err.now) (g.E.Sink.log c.write_trace-run.new.err)
-        (Ok c.in_default.field-0) c.deref-2.ensures.value c.in_default.ensures.trace;
+            c.write_trace-run.new.setting.state (stimulus_records (given_by c.args.texts.now)) _ _ (g.E.Sink.log c.args.err.now) (g.E.Sink.log c.write_trace-run.new.err)
+            (Ok c.in_default.field-0) c.deref-2.ensures.value c.in_default.ensures.trace;
         untold = c.in_default.ensures.untold;
         saved = refl;
       };
@@ -113,8 +113,8 @@ returns-in_default-save_state-clause-failed g c = λ status. inr (inr (inr (inr 
         set = c.requires.set;
         watched = rw (c.decls-decls.ensures, c.deref.ensures.value) at c.in-Ok.ensures.ok;
         trace = same_columns c.args.request.now.watch.progress c.args.request.now.watch.changes c.in-Ok.columns.items c.deref-2.result.now (unwrap_or c.args.request.now.watch.sim.every 0) c.args.setting.now.program c.args.setting.now.state
-        c.write_trace-run.new.setting.state (stimulus_records (given_by c.args.texts.now)) _ _ (g.E.Sink.log c.args.err.now) (g.E.Sink.log c.write_trace-run.new.err)
-        (Ok c.in_default.field-0) c.deref-2.ensures.value c.in_default.ensures.trace;
+            c.write_trace-run.new.setting.state (stimulus_records (given_by c.args.texts.now)) _ _ (g.E.Sink.log c.args.err.now) (g.E.Sink.log c.write_trace-run.new.err)
+            (Ok c.in_default.field-0) c.deref-2.ensures.value c.in_default.ensures.trace;
         untold = c.in_default.ensures.untold;
         saved = rw c.in_default.ensures.program at c.in_default-save_state.ensures.broken;
       };
@@ -141,8 +141,8 @@ returns-clause-done g c = λ status. (
       set = c.requires.set;
       watched = rw (c.decls-decls.ensures, c.deref.ensures.value) at c.in-Ok.ensures.ok;
       trace = same_columns c.args.request.now.watch.progress c.args.request.now.watch.changes c.in-Ok.columns.items c.deref-2.result.now (unwrap_or c.args.request.now.watch.sim.every 0) c.args.setting.now.program c.args.setting.now.state
-        c.write_trace-run.new.setting.state (stimulus_records (given_by c.args.texts.now)) _ _ (g.E.Sink.log c.args.err.now) (g.E.Sink.log c.write_trace-run.new.err)
-        (Ok c.in_default.field-0) c.deref-2.ensures.value c.in_default.ensures.trace;
+          c.write_trace-run.new.setting.state (stimulus_records (given_by c.args.texts.now)) _ _ (g.E.Sink.log c.args.err.now) (g.E.Sink.log c.write_trace-run.new.err)
+          (Ok c.in_default.field-0) c.deref-2.ensures.value c.in_default.ensures.trace;
       untold = c.in_default.ensures.untold;
       saved = rw (c.in_default.ensures.program, c.is_some-saves.ensures) at c.in-Ok-save_state.ensures.saved;
     };
