@@ -77,3 +77,6 @@ pub returns-in-Import-clause-done : goal.returns-in-Import-clause-done
 returns-in-Import-clause-done g c = λ status.
     let done = c.import_project.ensures.done status in
     rw c.in-Import.is (done.0, refl, done.1)
+
+pub returns-in-Expect-clause-failed : goal.returns-in-Expect-clause-failed
+returns-in-Expect-clause-failed g c = λ status. rw c.in-Expect.is (c.expect.ensures.failed status)
