@@ -11,7 +11,7 @@ there; an example has its own files.
     ```ladder               a program that is accepted, or rungs, which stand behind the last program's declarations
 
 `$ cat FILE` writes the file that it shows, where there is none of this name. A command of `ladder` has status 0
-exactly where it prints no line `fault ..`. When a document ends, each file that was put there must be as it was, so a command that
+exactly where it prints no line `fault ..`, and with `--expect` nothing. When a document ends, each file that was put there must be as it was, so a command that
 writes over a file of an example is compared with it. The sections of docs/user/faults.md and the words of the manual page
 are compared with what the program has.
 
@@ -143,8 +143,9 @@ def run(command, folder, tools, status):
     return done.stdout.decode("utf-8", "replace"), done.returncode
 
 
-def has_fault(shown):
-    return any(line.startswith("fault ") for line in shown.splitlines())
+def has_fault(shown, command=""):
+    """Whether a fault is shown, or a row that isn't the one that is expected."""
+    return any(line.startswith("fault ") for line in shown.splitlines()) or " --expect " in command and shown != ""
 
 
 def follow(name, blocks, folder, tools, tally):
@@ -206,8 +207,8 @@ def transcript(name, start, words, lines, folder, tools, tally, status):
             (folder / file[1]).write_text(shown, "utf-8")
         else:
             have, status = run(command, folder, tools, status)
-            done = status == 0 if re.match(r"ladder [^|]*$", command) else not has_fault(have)
-            tally.compare(f"{name}:{number}: $ {command}", (have, done), (shown, not has_fault(shown)))
+            done = status == 0 if re.match(r"ladder [^|]*$", command) else not has_fault(have, command)
+            tally.compare(f"{name}:{number}: $ {command}", (have, done), (shown, not has_fault(shown, command)))
     return status
 
 
