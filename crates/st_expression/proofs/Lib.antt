@@ -1,3 +1,5 @@
+pub mod Chains
 pub mod Levels
 pub mod Shapes
+pub mod Steps
 pub mod Uniqueness

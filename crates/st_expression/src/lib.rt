@@ -4,6 +4,7 @@
 mod evaluation;
 mod expression;
 mod fault;
+pub mod laws;
 mod level;
 mod reading;
 mod token;

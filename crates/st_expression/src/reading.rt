@@ -1,12 +1,13 @@
 //! An expression, read from the left.
 
-ghost use Rattle.std.specs.Prelude.{◌≡◌, ◌∷◌, [], ◌+◌, ◌<◌, List, length, None, Some, Err, IfErr, IfOk, IfSome, IsSome};
+ghost use Rattle.std.specs.Prelude.{◌≡◌, ◌∷◌, [], ◌+◌, ◌<◌, ◌↔◌, List, length, None, Some, Err, IfErr, IfOk, IfSome, IsSome, IsTrue};
 ghost use Rattle.st_expression.specs.Grammar.{IsExpression, IsNot, Joins, NoOperator, level_of};
 ghost use Rattle.st_expression.specs.Steps.{Begins, Fails, NotAt};
 ghost use Rattle.st_expression.specs.declared.expression.Expression.{Expression};
 ghost use Rattle.st_expression.specs.declared.fault.ReadFault.TheVariants.{Memory, NoExpression, TooDeep};
+ghost use Rattle.st_expression.specs.declared.level.Level.TheVariants.{Complement};
 ghost use Rattle.st_expression.specs.declared.token.Token.{Token};
-ghost use Rattle.st_expression.specs.declared.token.Token.TheVariants.{Close};
+ghost use Rattle.st_expression.specs.declared.token.Token.TheVariants.{Close, Not};
 
 use crate::expression::Expression;
 use crate::fault::ReadFault;
@@ -65,6 +66,13 @@ fn operator_of(level: Level, tokens: &[Token]) -> Option<(Token, &[Token])>
     }
 }
 
+/// The token is a NOT where one may stand.
+fn begins_complement(level: Level, token: Token) -> bool
+    ensures { IsTrue result ↔ (level ≡ Complement) × (token ≡ Not) }
+{
+    matches!((level, token), (Level::Complement, Token::Not))
+}
+
 fn complement_of(alloc: Global, a: Expression) -> Result<Expression, ReadFault>
     ensures not { IfOk result (λ e. IsNot a e) }
     ensures memory { IfErr result (λ f. f ≡ Memory) }
@@ -117,7 +125,7 @@ fn read_level(
             _ => Err(ReadFault::NoExpression),
         };
     };
-    if let (Level::Complement, Token::Not) = (level, token) {
+    if begins_complement(level, token) {
         let within = fewer(left)?;
         let (a, rest) = read_level(alloc, Level::Complement, within, inside)?;
         return Ok((complement_of(alloc, a)?, rest));

@@ -1,0 +1,205 @@
+-- What is at the start of the tokens, step by step.
+use Rattle.std.proofs.Common.{◌≡◌, ◌∙◌, ℕ, ◌+◌, ◌<◌, ◌≤◌, Bool, true, false, List, [], ◌∷◌, Some, None, ap, arith, sym, refl, subst, length}
+use Rattle.std.proofs.lemmas.Option.{same_Some, none-some}
+use Rattle.st_expression.specs.declared.expression.Operand.{Operand}
+use Rattle.st_expression.specs.declared.expression.Expression.{Expression}
+use Rattle.st_expression.specs.declared.expression.Expression.TheVariants as tree
+use Rattle.st_expression.specs.declared.fault.ReadFault.{ReadFault}
+use Rattle.st_expression.specs.declared.fault.ReadFault.TheVariants as fault
+use Rattle.st_expression.specs.declared.level.Level.{Level}
+use Rattle.st_expression.specs.declared.level.Level.TheVariants.{Primary, Complement, Equality, Conjunction, Exclusion, Disjunction}
+use Rattle.st_expression.specs.declared.token.Token.{Token}
+use Rattle.st_expression.specs.declared.token.Token.TheVariants as token
+use Rattle.st_expression.specs.Grammar.{closer, level_of, Reads, operand, constant, parentheses, complement, joined, alone, IsNot, Joins}
+use Rattle.st_expression.specs.Steps.{looseness, Begins, Ends, Fails, NotAt}
+use Rattle.st_expression.proofs.Levels.{ends_all, ends_closer, ends_closest, ends_next, ends_not, ends_operator}
+use Rattle.st_expression.proofs.Shapes.{Shape, shape, of_operand, of_constant, of_parentheses, of_complement, of_joined, of_alone}
+use Rattle.st_expression.proofs.Uniqueness.{complement_closer, complement_operator, heads, not_primary, only, primary_none, tails}
+
+-- ---- what begins
+
+primary : (l : Level) → closer l ≡ None → l ≡ Primary
+primary Primary c = refl
+primary Complement c = absurd (none-some Primary (sym c))
+primary Equality c = absurd (none-some Complement (sym c))
+primary Conjunction c = absurd (none-some Equality (sym c))
+primary Exclusion c = absurd (none-some Conjunction (sym c))
+primary Disjunction c = absurd (none-some Exclusion (sym c))
+
+at_primary : (l : Level) (ts rest : List Token) (e : Expression) → closer l ≡ None → Reads Primary ts rest e → Begins l ts rest e
+at_primary l ts rest e c r = subst (λ k. Begins k ts rest e) (sym (primary l c))
+    (record { reads = r; ends = ends_closest Primary rest (omega arith) })
+
+pub begins_operand : (l : Level) (ts rest : List Token) (o : Operand) → closer l ≡ None → ts ≡ token.Operand o ∷ rest → Begins l ts rest (tree.Operand o)
+begins_operand l ts rest o c w = at_primary l ts rest (tree.Operand o) c
+    (subst (λ xs. Reads Primary xs rest (tree.Operand o)) (sym w) (operand o rest))
+
+pub begins_constant : (l : Level) (ts rest : List Token) (on : Bool) → closer l ≡ None → ts ≡ token.Constant on ∷ rest → Begins l ts rest (tree.Constant on)
+begins_constant l ts rest on c w = at_primary l ts rest (tree.Constant on) c
+    (subst (λ xs. Reads Primary xs rest (tree.Constant on)) (sym w) (constant on rest))
+
+pub begins_open : (l : Level) (ts inside after rest : List Token) (e : Expression) → closer l ≡ None → ts ≡ token.Open ∷ inside
+    → Begins Disjunction inside after e → after ≡ token.Close ∷ rest → Begins l ts rest e
+begins_open l ts inside after rest e c w b close = at_primary l ts rest e c
+    (subst (λ xs. Reads Primary xs rest e) (sym w) (parentheses inside rest e (subst (λ xs. Reads Disjunction inside xs e) close b.reads)))
+
+pub begins_not : (l : Level) (ts inside rest : List Token) (a e : Expression) → l ≡ Complement → ts ≡ token.Not ∷ inside
+    → Begins Complement inside rest a → IsNot a e → Begins l ts rest e
+begins_not l ts inside rest a e same w b is = subst (λ k. Begins k ts rest e) (sym same)
+    (record { reads = subst (λ xs. Reads Complement xs rest e) (sym w) (complement inside rest a e b.reads is); ends = b.ends })
+
+pub begins_alone : (l tight : Level) (ts after : List Token) (e : Expression) → closer l ≡ Some tight → Begins tight ts after e → NotAt l after
+    → Begins l ts after e
+begins_alone l tight ts after e c b not_at = record { reads = alone l tight ts after e c b.reads; ends = ends_next l tight after c b.ends not_at }
+
+pub begins_joined : (l tight : Level) (ts after others rest : List Token) (x : Token) (a b e : Expression) → closer l ≡ Some tight
+    → Begins tight ts after a → after ≡ x ∷ others → level_of x ≡ Some l → Begins l others rest b → Joins x a b e → Begins l ts rest e
+begins_joined l tight ts after others rest x a b e c one w o two j = record {
+  reads = joined l tight ts others rest x a b e c o (subst (λ xs. Reads tight ts xs a) w one.reads) two.reads j;
+  ends = two.ends;
+}
+
+-- ---- why nothing does
+
+some_token : (l : Level) (ts rest : List Token) (e : Expression) → Reads l ts rest e → ts ≡ [] → ⊥
+some_token _ _ _ _ (operand o rest) w = cc
+some_token _ _ _ _ (constant on rest) w = cc
+some_token _ _ _ _ (parentheses inside rest e d) w = cc
+some_token _ _ _ _ (complement inside rest a e d is) w = cc
+some_token _ _ _ _ (joined loose tight ts others rest x a b e c o d d' j) w = some_token tight ts (x ∷ others) a d w
+some_token _ _ _ _ (alone loose tight ts rest e c d) w = some_token tight ts rest e d w
+
+pub fails_empty : (l : Level) (left : ℕ) (ts : List Token) (f : ReadFault) → f ≡ fault.NoExpression → ts ≡ [] → Fails l left ts f
+fails_empty l left ts f is w = subst (Fails l left ts) (sym is) (λ rest e b. some_token l ts rest e b.reads w)
+
+-- what begins an operand, a constant or parentheses
+abbrev pub IsFirst : Token → Type 0
+IsFirst (token.Operand o) = ⊥
+IsFirst (token.Constant on) = ⊥
+IsFirst token.Open = ⊥
+IsFirst _ = Unit {0}
+
+first_of_shape : (l : Level) (ts inside rest : List Token) (x : Token) (e : Expression) → l ≡ Primary → ts ≡ x ∷ inside → Shape l ts rest e → IsFirst x → ⊥
+first_of_shape l ts inside rest x e p w (of_operand q p' w' e') i = subst IsFirst (heads x (token.Operand q) inside rest (sym w ∙ w')) i
+first_of_shape l ts inside rest x e p w (of_constant q p' w' e') i = subst IsFirst (heads x (token.Constant q) inside rest (sym w ∙ w')) i
+first_of_shape l ts inside rest x e p w (of_parentheses q p' w' d) i = subst IsFirst (heads x token.Open inside q (sym w ∙ w')) i
+first_of_shape l ts inside rest x e p w (of_complement q a p' w' d is) i = let both : Primary ≡ Complement = sym p ∙ p' in cc
+first_of_shape l ts inside rest x e p w (of_joined t others op a b c o d d' j) i = primary_none l t p c
+first_of_shape l ts inside rest x e p w (of_alone t c d) i = primary_none l t p c
+
+pub fails_first : (l : Level) (left : ℕ) (ts inside : List Token) (x : Token) → closer l ≡ None → ts ≡ x ∷ inside → IsFirst x → Fails l left ts fault.NoExpression
+fails_first l left ts inside x c w i = λ rest e b. first_of_shape l ts inside rest x e (primary l c) w (shape l ts rest e b.reads) i
+
+-- behind an opening parenthesis there is an expression, and a closing one behind it
+pub record Closed (inside rest : List Token) (e : Expression) : Type 0 where
+  pub reads : Reads Disjunction inside (token.Close ∷ rest) e
+
+closed : (l : Level) (ts inside rest : List Token) (e : Expression) → l ≡ Primary → ts ≡ token.Open ∷ inside → Shape l ts rest e → Closed inside rest e
+closed l ts inside rest e p w (of_parentheses q p' w' d) =
+    record { reads = subst (λ xs. Reads Disjunction xs (token.Close ∷ rest) e) (sym (tails token.Open token.Open inside q (sym w ∙ w'))) d }
+closed l ts inside rest e p w (of_operand q p' w' e') = let both : token.Open ∷ inside ≡ token.Operand q ∷ rest = sym w ∙ w' in absurd cc
+closed l ts inside rest e p w (of_constant q p' w' e') = let both : token.Open ∷ inside ≡ token.Constant q ∷ rest = sym w ∙ w' in absurd cc
+closed l ts inside rest e p w (of_complement q a p' w' d is) = let both : Primary ≡ Complement = sym p ∙ p' in absurd cc
+closed l ts inside rest e p w (of_joined t others op a b c o d d' j) = absurd (primary_none l t p c)
+closed l ts inside rest e p w (of_alone t c d) = absurd (primary_none l t p c)
+
+pub fails_open : (l : Level) (left within : ℕ) (ts inside : List Token) (f : ReadFault) → closer l ≡ None → ts ≡ token.Open ∷ inside
+    → within + 1 ≡ left → Fails Disjunction within inside f → Fails l left ts f
+fails_open l left within ts inside fault.Memory c w n h = tt
+fails_open l left within ts inside fault.NoExpression c w n h = λ rest e b.
+    let is = closed l ts inside rest e (primary l c) w (shape l ts rest e b.reads) in
+    h (token.Close ∷ rest) e (record { reads = is.reads; ends = tt })
+fails_open l left within ts inside fault.TooDeep c w n h = let long : length ts ≡ length (token.Open ∷ inside) = ap length w in grind (arith, long, h, n)
+
+pub fails_close : (l : Level) (left : ℕ) (ts inside after : List Token) (a : Expression) (f : ReadFault) → f ≡ fault.NoExpression → closer l ≡ None
+    → ts ≡ token.Open ∷ inside → Begins Disjunction inside after a → ((rest : List Token) → after ≡ token.Close ∷ rest → ⊥) → Fails l left ts f
+fails_close l left ts inside after a f is c w had not_closed = subst (Fails l left ts) (sym is) (λ rest e b.
+    let inner = closed l ts inside rest e (primary l c) w (shape l ts rest e b.reads) in
+    let same = only Disjunction inside after a had.reads (token.Close ∷ rest) e inner.reads had.ends tt in
+    not_closed rest same.rest)
+
+pub record Negated (inside rest : List Token) : Type 0 where
+  pub a : Expression
+  pub reads : Reads Complement inside rest a
+
+negated : (l : Level) (ts inside rest : List Token) (e : Expression) → l ≡ Complement → ts ≡ token.Not ∷ inside → Shape l ts rest e → Negated inside rest
+negated l ts inside rest e p w (of_complement q a p' w' d is) =
+    record { a = a; reads = subst (λ xs. Reads Complement xs rest a) (sym (tails token.Not token.Not inside q (sym w ∙ w'))) d }
+negated l ts inside rest e p w (of_operand q p' w' e') = let both : Primary ≡ Complement = sym p' ∙ p in absurd cc
+negated l ts inside rest e p w (of_constant q p' w' e') = let both : Primary ≡ Complement = sym p' ∙ p in absurd cc
+negated l ts inside rest e p w (of_parentheses q p' w' d) = let both : Primary ≡ Complement = sym p' ∙ p in absurd cc
+negated l ts inside rest e p w (of_joined t others op a b c o d d' j) = absurd (complement_operator l op p o)
+negated l ts inside rest e p w (of_alone t c d) = absurd (not_primary t ts inside rest e (sym (complement_closer l t p c)) w (shape t ts rest e d))
+
+pub fails_not : (l : Level) (left within : ℕ) (ts inside : List Token) (f : ReadFault) → l ≡ Complement → ts ≡ token.Not ∷ inside
+    → within + 1 ≡ left → Fails Complement within inside f → Fails l left ts f
+fails_not l left within ts inside fault.Memory p w n h = tt
+fails_not l left within ts inside fault.NoExpression p w n h = λ rest e b.
+    let is = negated l ts inside rest e p w (shape l ts rest e b.reads) in
+    h rest is.a (record { reads = is.reads; ends = ends_closest Complement rest (omega arith) })
+fails_not l left within ts inside fault.TooDeep p w n h = let long : length ts ≡ length (token.Not ∷ inside) = ap length w in grind (arith, long, h, n)
+
+-- an expression of the next closer level begins, if it is no NOT
+pub record Firstly (tight : Level) (ts : List Token) : Type 0 where
+  pub rest : List Token
+  pub e : Expression
+  pub begins : Begins tight ts rest e
+
+firstly : (l tight : Level) (ts inside rest : List Token) (x : Token) (e : Expression) → closer l ≡ Some tight → ts ≡ x ∷ inside
+    → ((l ≡ Complement) × (x ≡ token.Not) → ⊥) → Ends l rest → Shape l ts rest e → Firstly tight ts
+firstly l tight ts inside rest x e c w other ends (of_joined t others op a b c' o d d' j) =
+    let same : t ≡ tight = same_Some t tight (sym c' ∙ c) in
+    record { rest = op ∷ others; e = a; begins = record {
+      reads = subst (λ k. Reads k ts (op ∷ others) a) same d; ends = ends_operator l tight op others c o } }
+firstly l tight ts inside rest x e c w other ends (of_alone t c' d) =
+    let same : t ≡ tight = same_Some t tight (sym c' ∙ c) in
+    record { rest = rest; e = e; begins = record { reads = subst (λ k. Reads k ts rest e) same d; ends = ends_closer l tight rest c ends } }
+firstly l tight ts inside rest x e c w other ends (of_complement q a p' w' d is) = absurd (other (p', heads x token.Not inside q (sym w ∙ w')))
+firstly l tight ts inside rest x e c w other ends (of_operand q p' w' e') = absurd (primary_none l tight p' c)
+firstly l tight ts inside rest x e c w other ends (of_constant q p' w' e') = absurd (primary_none l tight p' c)
+firstly l tight ts inside rest x e c w other ends (of_parentheses q p' w' d) = absurd (primary_none l tight p' c)
+
+pub fails_closer : (l tight : Level) (left : ℕ) (ts inside : List Token) (x : Token) (f : ReadFault) → closer l ≡ Some tight → ts ≡ x ∷ inside
+    → ((l ≡ Complement) × (x ≡ token.Not) → ⊥) → Fails tight left ts f → Fails l left ts f
+fails_closer l tight left ts inside x fault.Memory c w other h = tt
+fails_closer l tight left ts inside x fault.NoExpression c w other h = λ rest e b.
+    let is = firstly l tight ts inside rest x e c w other b.ends (shape l ts rest e b.reads) in h is.rest is.e is.begins
+fails_closer l tight left ts inside x fault.TooDeep c w other h = h
+
+-- an expression of the level is behind the operator
+pub record Secondly (l : Level) (others rest : List Token) : Type 0 where
+  pub b : Expression
+  pub reads : Reads l others rest b
+
+secondly : (l tight : Level) (ts after others rest : List Token) (x : Token) (a e : Expression) → closer l ≡ Some tight → Begins tight ts after a
+    → after ≡ x ∷ others → level_of x ≡ Some l → Ends l rest → Shape l ts rest e → Secondly l others rest
+secondly l tight ts after others rest x a e c had w o ends (of_joined t others' op a' b' c' o' d d' j) =
+    let same : t ≡ tight = same_Some t tight (sym c' ∙ c) in
+    let one = only tight ts after a had.reads (op ∷ others') a' (subst (λ k. Reads k ts (op ∷ others') a') same d) had.ends (ends_operator l tight op others' c o') in
+    let behind : others' ≡ others = sym (tails x op others others' (sym w ∙ one.rest)) in
+    record { b = b'; reads = subst (λ os. Reads l os rest b') behind d' }
+secondly l tight ts after others rest x a e c had w o ends (of_alone t c' d) =
+    let same : t ≡ tight = same_Some t tight (sym c' ∙ c) in
+    let one = only tight ts after a had.reads rest e (subst (λ k. Reads k ts rest e) same d) had.ends (ends_closer l tight rest c ends) in
+    let more : looseness l < looseness l = ends_not l l x others (subst (Ends l) (sym one.rest ∙ w) ends) o in
+    absurd (omega (arith, more))
+secondly l tight ts after others rest x a e c had w o ends (of_complement q g p' w' d is) = absurd (complement_operator l x p' o)
+secondly l tight ts after others rest x a e c had w o ends (of_operand q p' w' e') = absurd (primary_none l tight p' c)
+secondly l tight ts after others rest x a e c had w o ends (of_constant q p' w' e') = absurd (primary_none l tight p' c)
+secondly l tight ts after others rest x a e c had w o ends (of_parentheses q p' w' d) = absurd (primary_none l tight p' c)
+
+pub fails_second : (l tight : Level) (left within : ℕ) (ts after others : List Token) (x : Token) (a : Expression) (f : ReadFault) → closer l ≡ Some tight
+    → Begins tight ts after a → length after < length ts → after ≡ x ∷ others → level_of x ≡ Some l → within + 1 ≡ left → Fails l within others f → Fails l left ts f
+fails_second l tight left within ts after others x a fault.Memory c had less w o n h = tt
+fails_second l tight left within ts after others x a fault.NoExpression c had less w o n h = λ rest e b.
+    let is = secondly l tight ts after others rest x a e c had w o b.ends (shape l ts rest e b.reads) in
+    h rest is.b (record { reads = is.reads; ends = b.ends })
+fails_second l tight left within ts after others x a fault.TooDeep c had less w o n h =
+    let long : length after ≡ length (x ∷ others) = ap length w in grind (arith, long, h, n, less)
+
+-- the first token, once it is known which one it is
+pub with_first : (ts inside : List Token) (x y : Token) → ts ≡ x ∷ inside → x ≡ y → ts ≡ y ∷ inside
+with_first ts inside x y w same = w ∙ ap (λ z. z ∷ inside) same
+
+pub off_on : (b : Bool) → b ≡ false → b ≡ true → ⊥
+off_on b off on = cc
