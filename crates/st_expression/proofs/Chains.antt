@@ -1,10 +1,8 @@
 -- Chains of operators of one level.
-use Rattle.std.proofs.Common.{◌≡◌, ◌∙◌, Bool, true, false, not, ◌&&◌, ◌||◌, Option, Some, None, ap, sym, refl}
+use Rattle.std.proofs.Common.{◌≡◌, ◌∙◌, Bool, true, false, not, ◌&&◌, ◌||◌, Some, ap, sym, refl}
 use Rattle.std.proofs.lemmas.Option.{same_Some, none-some}
-use Rattle.st_expression.specs.declared.expression.Operand.{Operand}
 use Rattle.st_expression.specs.declared.expression.Expression.{Expression}
-use Rattle.st_expression.specs.declared.level.Level.{Level}
-use Rattle.st_expression.specs.declared.level.Level.TheVariants.{Primary, Complement, Equality, Conjunction, Exclusion, Disjunction}
+use Rattle.st_expression.specs.declared.level.Level.TheVariants.{Equality, Conjunction, Exclusion, Disjunction}
 use Rattle.st_expression.specs.declared.token.Token.{Token}
 use Rattle.st_expression.specs.declared.token.Token.TheVariants as token
 use Rattle.st_expression.specs.Grammar.{Joins, level_of}

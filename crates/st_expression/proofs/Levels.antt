@@ -105,9 +105,9 @@ pub ends_closest : (l : Level) (ts : List Token) → looseness l ≤ 1 → Ends 
 ends_closest l [] few = tt
 ends_closest l (x ∷ ts) few = above_few (looseness l) (level_of x) few (of_operator x)
   where
-  above_few : (n : ℕ) (o : Option Level) → n ≤ 1 → OfOperator o → Above n o
-  above_few n None few h = tt
-  above_few n (Some m) few h = omega (arith, few, h)
+    above_few : (n : ℕ) (o : Option Level) → n ≤ 1 → OfOperator o → Above n o
+    above_few n None few h = tt
+    above_few n (Some m) few h = omega (arith, few, h)
 
 none_above : (o : Option Level) → Above 5 o → o ≡ None
 none_above None h = refl

@@ -1,5 +1,5 @@
 -- An expression that is read, by its outermost part.
-use Rattle.std.proofs.Common.{◌≡◌, Bool, List, [], ◌∷◌, Some, refl}
+use Rattle.std.proofs.Common.{◌≡◌, Bool, List, ◌∷◌, Some, refl}
 use Rattle.st_expression.specs.declared.expression.Operand.{Operand}
 use Rattle.st_expression.specs.declared.expression.Expression.{Expression}
 use Rattle.st_expression.specs.declared.expression.Expression.TheVariants as tree

@@ -10,9 +10,9 @@ use Rattle.st_expression.specs.declared.level.Level.{Level}
 use Rattle.st_expression.specs.declared.level.Level.TheVariants.{Primary, Complement, Equality, Conjunction, Exclusion, Disjunction}
 use Rattle.st_expression.specs.declared.token.Token.{Token}
 use Rattle.st_expression.specs.declared.token.Token.TheVariants as token
-use Rattle.st_expression.specs.Grammar.{closer, level_of, Reads, operand, constant, parentheses, complement, joined, alone, IsNot, Joins}
+use Rattle.st_expression.specs.Grammar.{closer, level_of, nesting, Reads, operand, constant, parentheses, complement, joined, alone, IsNot, Joins}
 use Rattle.st_expression.specs.Steps.{looseness, Begins, Ends, Fails, NotAt}
-use Rattle.st_expression.proofs.Levels.{ends_all, ends_closer, ends_closest, ends_next, ends_not, ends_operator}
+use Rattle.st_expression.proofs.Levels.{ends_closer, ends_closest, ends_next, ends_not, ends_operator}
 use Rattle.st_expression.proofs.Shapes.{Shape, shape, of_operand, of_constant, of_parentheses, of_complement, of_joined, of_alone}
 use Rattle.st_expression.proofs.Uniqueness.{complement_closer, complement_operator, heads, not_primary, only, primary_none, tails}
 
@@ -58,6 +58,82 @@ begins_joined l tight ts after others rest x a b e c one w o two j = record {
   reads = joined l tight ts others rest x a b e c o (subst (λ xs. Reads tight ts xs a) w one.reads) two.reads j;
   ends = two.ends;
 }
+
+-- ---- how deep
+
+nesting-operator : (l : Level) (x : Token) (ts : List Token) → level_of x ≡ Some l → nesting (x ∷ ts) ≡ nesting ts + 1
+unfolding nesting
+nesting-operator l token.Equal ts o = refl
+nesting-operator l token.Unequal ts o = refl
+nesting-operator l token.And ts o = refl
+nesting-operator l token.Exclusive ts o = refl
+nesting-operator l token.Or ts o = refl
+nesting-operator l (token.Operand v) ts o = absurd (none-some l o)
+nesting-operator l (token.Constant on) ts o = absurd (none-some l o)
+nesting-operator l token.Not ts o = absurd (none-some l o)
+nesting-operator l token.Open ts o = absurd (none-some l o)
+nesting-operator l token.Close ts o = absurd (none-some l o)
+nesting-operator l token.Other ts o = absurd (none-some l o)
+
+nesting-open : (ts : List Token) → nesting (token.Open ∷ ts) ≡ nesting ts + 1
+unfolding nesting
+nesting-open ts = refl
+
+nesting-not : (ts : List Token) → nesting (token.Not ∷ ts) ≡ nesting ts + 1
+unfolding nesting
+nesting-not ts = refl
+
+nesting-close : (ts : List Token) → nesting (token.Close ∷ ts) ≡ nesting ts
+unfolding nesting
+nesting-close ts = refl
+
+nesting-operand : (o : Operand) (ts : List Token) → nesting ts ≤ nesting (token.Operand o ∷ ts)
+unfolding nesting
+nesting-operand o ts = omega arith
+
+nesting-constant : (on : Bool) (ts : List Token) → nesting ts ≤ nesting (token.Constant on ∷ ts)
+unfolding nesting
+nesting-constant on ts = omega arith
+
+-- what is behind an expression nests no more
+nesting-rest : (l : Level) (ts rest : List Token) (e : Expression) → Reads l ts rest e → nesting rest ≤ nesting ts
+nesting-rest _ _ _ _ (operand o rest) = nesting-operand o rest
+nesting-rest _ _ _ _ (constant on rest) = nesting-constant on rest
+nesting-rest _ _ _ _ (parentheses inside rest e d) =
+    let inner = nesting-rest Disjunction inside (token.Close ∷ rest) e d in
+    let close = nesting-close rest in
+    let more = nesting-open inside in
+    omega (arith, inner, close, more)
+nesting-rest _ _ _ _ (complement inside rest a e d is) =
+    let inner = nesting-rest Complement inside rest a d in
+    let more = nesting-not inside in
+    omega (arith, inner, more)
+nesting-rest _ _ _ _ (joined loose tight ts others rest x a b e c o d d' j) =
+    let one = nesting-rest tight ts (x ∷ others) a d in
+    let two = nesting-rest loose others rest b d' in
+    let more = nesting-operator loose x others o in
+    omega (arith, one, two, more)
+nesting-rest _ _ _ _ (alone loose tight ts rest e c d) = nesting-rest tight ts rest e d
+
+-- nothing more may stand within
+nothing_left : (l : Level) (left : ℕ) (ts : List Token) (f : ReadFault) → (f ≡ fault.TooDeep) × (left ≡ 0) → 0 < nesting ts → Fails l left ts f
+nothing_left l left ts f is some = subst (Fails l left ts) (sym is.0) (let none = is.1 in omega (arith, none, some))
+
+pub deep_open : (l : Level) (left : ℕ) (ts inside : List Token) (f : ReadFault) → (f ≡ fault.TooDeep) × (left ≡ 0) → ts ≡ token.Open ∷ inside → Fails l left ts f
+deep_open l left ts inside f is w = nothing_left l left ts f is
+    (let more = nesting-open inside in let same = ap nesting w in omega (arith, more, same))
+
+pub deep_not : (l : Level) (left : ℕ) (ts inside : List Token) (f : ReadFault) → (f ≡ fault.TooDeep) × (left ≡ 0) → ts ≡ token.Not ∷ inside → Fails l left ts f
+deep_not l left ts inside f is w = nothing_left l left ts f is
+    (let more = nesting-not inside in let same = ap nesting w in omega (arith, more, same))
+
+pub deep_second : (l tight : Level) (left : ℕ) (ts after others : List Token) (x : Token) (a : Expression) (f : ReadFault) → (f ≡ fault.TooDeep) × (left ≡ 0)
+    → Begins tight ts after a → after ≡ x ∷ others → level_of x ≡ Some l → Fails l left ts f
+deep_second l tight left ts after others x a f is had w o = nothing_left l left ts f is
+    (let more = nesting-operator l x others o in
+    let same = ap nesting w in
+    let behind = nesting-rest tight ts after a had.reads in
+    omega (arith, more, same, behind))
 
 -- ---- why nothing does
 
@@ -109,7 +185,7 @@ fails_open l left within ts inside fault.Memory c w n h = tt
 fails_open l left within ts inside fault.NoExpression c w n h = λ rest e b.
     let is = closed l ts inside rest e (primary l c) w (shape l ts rest e b.reads) in
     h (token.Close ∷ rest) e (record { reads = is.reads; ends = tt })
-fails_open l left within ts inside fault.TooDeep c w n h = let long : length ts ≡ length (token.Open ∷ inside) = ap length w in grind (arith, long, h, n)
+fails_open l left within ts inside fault.TooDeep c w n h = let more = nesting-open inside in let same = ap nesting w in omega (arith, more, same, h, n)
 
 pub fails_close : (l : Level) (left : ℕ) (ts inside after : List Token) (a : Expression) (f : ReadFault) → f ≡ fault.NoExpression → closer l ≡ None
     → ts ≡ token.Open ∷ inside → Begins Disjunction inside after a → ((rest : List Token) → after ≡ token.Close ∷ rest → ⊥) → Fails l left ts f
@@ -137,7 +213,7 @@ fails_not l left within ts inside fault.Memory p w n h = tt
 fails_not l left within ts inside fault.NoExpression p w n h = λ rest e b.
     let is = negated l ts inside rest e p w (shape l ts rest e b.reads) in
     h rest is.a (record { reads = is.reads; ends = ends_closest Complement rest (omega arith) })
-fails_not l left within ts inside fault.TooDeep p w n h = let long : length ts ≡ length (token.Not ∷ inside) = ap length w in grind (arith, long, h, n)
+fails_not l left within ts inside fault.TooDeep p w n h = let more = nesting-not inside in let same = ap nesting w in omega (arith, more, same, h, n)
 
 -- an expression of the next closer level begins, if it is no NOT
 pub record Firstly (tight : Level) (ts : List Token) : Type 0 where
@@ -149,8 +225,14 @@ firstly : (l tight : Level) (ts inside rest : List Token) (x : Token) (e : Expre
     → ((l ≡ Complement) × (x ≡ token.Not) → ⊥) → Ends l rest → Shape l ts rest e → Firstly tight ts
 firstly l tight ts inside rest x e c w other ends (of_joined t others op a b c' o d d' j) =
     let same : t ≡ tight = same_Some t tight (sym c' ∙ c) in
-    record { rest = op ∷ others; e = a; begins = record {
-      reads = subst (λ k. Reads k ts (op ∷ others) a) same d; ends = ends_operator l tight op others c o } }
+    record {
+      rest = op ∷ others;
+      e = a;
+      begins = record {
+        reads = subst (λ k. Reads k ts (op ∷ others) a) same d;
+        ends = ends_operator l tight op others c o;
+      };
+    }
 firstly l tight ts inside rest x e c w other ends (of_alone t c' d) =
     let same : t ≡ tight = same_Some t tight (sym c' ∙ c) in
     record { rest = rest; e = e; begins = record { reads = subst (λ k. Reads k ts rest e) same d; ends = ends_closer l tight rest c ends } }
@@ -189,13 +271,16 @@ secondly l tight ts after others rest x a e c had w o ends (of_constant q p' w' 
 secondly l tight ts after others rest x a e c had w o ends (of_parentheses q p' w' d) = absurd (primary_none l tight p' c)
 
 pub fails_second : (l tight : Level) (left within : ℕ) (ts after others : List Token) (x : Token) (a : Expression) (f : ReadFault) → closer l ≡ Some tight
-    → Begins tight ts after a → length after < length ts → after ≡ x ∷ others → level_of x ≡ Some l → within + 1 ≡ left → Fails l within others f → Fails l left ts f
-fails_second l tight left within ts after others x a fault.Memory c had less w o n h = tt
-fails_second l tight left within ts after others x a fault.NoExpression c had less w o n h = λ rest e b.
+    → Begins tight ts after a → after ≡ x ∷ others → level_of x ≡ Some l → within + 1 ≡ left → Fails l within others f → Fails l left ts f
+fails_second l tight left within ts after others x a fault.Memory c had w o n h = tt
+fails_second l tight left within ts after others x a fault.NoExpression c had w o n h = λ rest e b.
     let is = secondly l tight ts after others rest x a e c had w o b.ends (shape l ts rest e b.reads) in
     h rest is.b (record { reads = is.reads; ends = b.ends })
-fails_second l tight left within ts after others x a fault.TooDeep c had less w o n h =
-    let long : length after ≡ length (x ∷ others) = ap length w in grind (arith, long, h, n, less)
+fails_second l tight left within ts after others x a fault.TooDeep c had w o n h =
+    let more = nesting-operator l x others o in
+    let same = ap nesting w in
+    let behind = nesting-rest tight ts after a had.reads in
+    omega (arith, more, same, behind, h, n)
 
 -- the first token, once it is known which one it is
 pub with_first : (ts inside : List Token) (x y : Token) → ts ≡ x ∷ inside → x ≡ y → ts ≡ y ∷ inside

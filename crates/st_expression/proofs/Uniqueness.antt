@@ -1,5 +1,5 @@
 -- The longest expression that begins the tokens is one, with one value.
-use Rattle.std.proofs.Common.{◌≡◌, ◌∙◌, ℕ, ◌<◌, ◌≤◌, Bool, not, ◌&&◌, ◌||◌, List, [], ◌∷◌, Some, ap, arith, sym, refl, subst}
+use Rattle.std.proofs.Common.{◌≡◌, ◌∙◌, ◌<◌, ◌≤◌, Bool, not, ◌&&◌, ◌||◌, List, [], ◌∷◌, Some, ap, arith, sym, refl, subst}
 use Rattle.std.proofs.lemmas.Option.{same_Some, none-some}
 use Rattle.st_expression.specs.declared.expression.Operand.{Operand}
 use Rattle.st_expression.specs.declared.expression.Expression.{Expression}
@@ -11,7 +11,7 @@ use Rattle.st_expression.specs.declared.token.Token.TheVariants as token
 use Rattle.st_expression.specs.Grammar.{closer, level_of, Reads, operand, constant, parentheses, complement, joined, alone, IsNot, Joins}
 use Rattle.st_expression.specs.Steps.{looseness, Ends}
 use Rattle.st_expression.specs.Value.{value, differ}
-use Rattle.st_expression.proofs.Levels.{ends_closer, ends_operator, ends_closest, ends_not, operator_loose}
+use Rattle.st_expression.proofs.Levels.{ends_closer, ends_operator, ends_not, operator_loose}
 use Rattle.st_expression.proofs.Shapes.{Shape, shape, of_operand, of_constant, of_parentheses, of_complement, of_joined, of_alone}
 
 -- ---- values

@@ -1,6 +1,6 @@
 -- Expressions of Structured Text over BOOL values (IEC 61131-3:2013, Table 71): NOT binds closest, then `=` and `<>`, then AND, then
 -- XOR, then OR.
-use Rattle.std.specs.Prelude.{◌≡◌, ℕ, ◌<◌, Bool, Box, List, [], ◌∷◌, Option, Some, None, IfSome}
+use Rattle.std.specs.Prelude.{◌≡◌, ℕ, ◌+◌, Bool, Box, List, [], ◌∷◌, Option, Some, None}
 use Rattle.std.specs.Global.{Global}
 use Rattle.st_expression.specs.declared.expression.Operand.{Operand}
 use Rattle.st_expression.specs.declared.expression.Expression.{Expression}
@@ -68,3 +68,12 @@ IsExpression tokens rest e = Reads Disjunction tokens rest e
 abbrev pub NoOperator : List Token → Type 0
 NoOperator [] = Unit {0}
 NoOperator (t ∷ ts) = level_of t ≡ None
+
+-- How many opening parentheses, NOTs and operators come before the first token that no expression has.
+unfoldable pub nesting : List Token → ℕ
+nesting [] = 0
+nesting (token.Operand o ∷ ts) = nesting ts
+nesting (token.Constant on ∷ ts) = nesting ts
+nesting (token.Close ∷ ts) = nesting ts
+nesting (token.Other ∷ ts) = 0
+nesting (_ ∷ ts) = nesting ts + 1

@@ -1,12 +1,12 @@
 -- Private: what the reader of one level tells.
-use Rattle.std.specs.Prelude.{◌≡◌, ℕ, ◌<◌, List, [], ◌∷◌, Some, IfSome, length}
+use Rattle.std.specs.Prelude.{◌≡◌, ℕ, ◌<◌, List, [], ◌∷◌, Some, IfSome}
 use Rattle.st_expression.specs.declared.expression.Expression.{Expression}
 use Rattle.st_expression.specs.declared.fault.ReadFault.{ReadFault}
 use Rattle.st_expression.specs.declared.fault.ReadFault.TheVariants as fault
 use Rattle.st_expression.specs.declared.level.Level.{Level}
 use Rattle.st_expression.specs.declared.level.Level.TheVariants.{Primary, Complement, Equality, Conjunction, Exclusion, Disjunction}
 use Rattle.st_expression.specs.declared.token.Token.{Token}
-use Rattle.st_expression.specs.Grammar.{Reads, level_of}
+use Rattle.st_expression.specs.Grammar.{Reads, level_of, nesting}
 
 -- how loosely a level binds
 abbrev pub looseness : Level → ℕ
@@ -36,4 +36,4 @@ pub record Begins (level : Level) (tokens rest : List Token) (e : Expression) : 
 abbrev pub Fails : Level → ℕ → List Token → ReadFault → Type 0
 Fails level left tokens fault.Memory = Unit {0}
 Fails level left tokens fault.NoExpression = (rest : List Token) (e : Expression) → Begins level tokens rest e → ⊥
-Fails level left tokens fault.TooDeep = left < length tokens
+Fails level left tokens fault.TooDeep = left < nesting tokens

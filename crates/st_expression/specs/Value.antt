@@ -1,5 +1,5 @@
 -- The value of an expression (IEC 61131-3, Structured Text).
-use Rattle.std.specs.Prelude.{ℕ, Bool, true, false, not, ◌&&◌, ◌||◌, List, Option, Some, None, slice_get}
+use Rattle.std.specs.Prelude.{ℕ, Bool, true, false, not, ◌&&◌, ◌||◌, List, Some, None, slice_get}
 use Rattle.st_expression.specs.declared.expression.Operand.{Operand}
 use Rattle.st_expression.specs.declared.expression.Operand.TheVariants.{Variable, Output}
 use Rattle.st_expression.specs.declared.expression.Expression.{Expression}

@@ -25,9 +25,7 @@ pub fn evaluate(expression: &Expression, values: &[bool], outputs: &[bool]) -> b
         Expression::Operand(Operand::Variable(number)) => value_at(values, *number),
         Expression::Operand(Operand::Output(number)) => value_at(outputs, *number),
         Expression::Not(a) => !evaluate(a, values, outputs),
-        Expression::Equal(a, b) => {
-            evaluate(a, values, outputs) == evaluate(b, values, outputs)
-        }
+        Expression::Equal(a, b) => { evaluate(a, values, outputs) == evaluate(b, values, outputs) }
         Expression::And(a, b) => evaluate(a, values, outputs) && evaluate(b, values, outputs),
         Expression::Exclusive(a, b) => {
             evaluate(a, values, outputs) != evaluate(b, values, outputs)

@@ -1,7 +1,7 @@
 //! An expression, read from the left.
 
 ghost use Rattle.std.specs.Prelude.{◌≡◌, ◌∷◌, [], ◌+◌, ◌<◌, ◌↔◌, List, length, None, Some, Err, IfErr, IfOk, IfSome, IsSome, IsTrue};
-ghost use Rattle.st_expression.specs.Grammar.{IsExpression, IsNot, Joins, NoOperator, level_of};
+ghost use Rattle.st_expression.specs.Grammar.{IsExpression, IsNot, Joins, NoOperator, level_of, nesting};
 ghost use Rattle.st_expression.specs.Steps.{Begins, Fails, NotAt};
 ghost use Rattle.st_expression.specs.declared.expression.Expression.{Expression};
 ghost use Rattle.st_expression.specs.declared.fault.ReadFault.TheVariants.{Memory, NoExpression, TooDeep};
@@ -140,15 +140,12 @@ fn read_level(
 }
 
 /// The expression at the start of the tokens, the longest one, and the tokens behind it.
-pub fn read_expression(
-    alloc: Global,
-    tokens: &[Token],
-) -> Result<(Expression, &[Token]), ReadFault>
+pub fn read_expression(alloc: Global, tokens: &[Token]) -> Result<(Expression, &[Token]), ReadFault>
     ensures read { IfOk result (λ x. IsExpression tokens.now x.1.now x.0) }
     ensures longest { IfOk result (λ x. NoOperator x.1.now) }
     ensures none { result ≡ Err NoExpression → (rest : List Token) (e : Expression)
         → IsExpression tokens.now rest e → NoOperator rest → ⊥ }
-    ensures too_deep { result ≡ Err TooDeep → DEPTH < length tokens.now }
+    ensures too_deep { result ≡ Err TooDeep → DEPTH < nesting tokens.now }
 {
     read_level(alloc, Level::Disjunction, DEPTH, tokens)
 }
