@@ -1,4 +1,5 @@
 pub mod Chains
+pub mod Fronts
 pub mod Levels
 pub mod Shapes
 pub mod Steps

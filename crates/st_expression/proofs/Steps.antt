@@ -1,5 +1,5 @@
 -- What is at the start of the tokens, step by step.
-use Rattle.std.proofs.Common.{◌≡◌, ◌∙◌, ℕ, ◌+◌, ◌<◌, ◌≤◌, Bool, true, false, List, [], ◌∷◌, Some, None, ap, arith, sym, refl, subst, length}
+use Rattle.std.proofs.Common.{◌≡◌, ◌∙◌, ℕ, ◌+◌, ◌<◌, ◌≤◌, Bool, true, false, List, [], ◌∷◌, Some, None, ap, arith, sym, refl, subst}
 use Rattle.std.proofs.lemmas.Option.{same_Some, none-some}
 use Rattle.st_expression.specs.declared.expression.Operand.{Operand}
 use Rattle.st_expression.specs.declared.expression.Expression.{Expression}
@@ -147,24 +147,6 @@ some_token _ _ _ _ (alone loose tight ts rest e c d) w = some_token tight ts res
 
 pub fails_empty : (l : Level) (left : ℕ) (ts : List Token) (f : ReadFault) → f ≡ fault.NoExpression → ts ≡ [] → Fails l left ts f
 fails_empty l left ts f is w = subst (Fails l left ts) (sym is) (λ rest e b. some_token l ts rest e b.reads w)
-
--- what begins an operand, a constant or parentheses
-abbrev pub IsFirst : Token → Type 0
-IsFirst (token.Operand o) = ⊥
-IsFirst (token.Constant on) = ⊥
-IsFirst token.Open = ⊥
-IsFirst _ = Unit {0}
-
-first_of_shape : (l : Level) (ts inside rest : List Token) (x : Token) (e : Expression) → l ≡ Primary → ts ≡ x ∷ inside → Shape l ts rest e → IsFirst x → ⊥
-first_of_shape l ts inside rest x e p w (of_operand q p' w' e') i = subst IsFirst (heads x (token.Operand q) inside rest (sym w ∙ w')) i
-first_of_shape l ts inside rest x e p w (of_constant q p' w' e') i = subst IsFirst (heads x (token.Constant q) inside rest (sym w ∙ w')) i
-first_of_shape l ts inside rest x e p w (of_parentheses q p' w' d) i = subst IsFirst (heads x token.Open inside q (sym w ∙ w')) i
-first_of_shape l ts inside rest x e p w (of_complement q a p' w' d is) i = let both : Primary ≡ Complement = sym p ∙ p' in cc
-first_of_shape l ts inside rest x e p w (of_joined t others op a b c o d d' j) i = primary_none l t p c
-first_of_shape l ts inside rest x e p w (of_alone t c d) i = primary_none l t p c
-
-pub fails_first : (l : Level) (left : ℕ) (ts inside : List Token) (x : Token) → closer l ≡ None → ts ≡ x ∷ inside → IsFirst x → Fails l left ts fault.NoExpression
-fails_first l left ts inside x c w i = λ rest e b. first_of_shape l ts inside rest x e (primary l c) w (shape l ts rest e b.reads) i
 
 -- behind an opening parenthesis there is an expression, and a closing one behind it
 pub record Closed (inside rest : List Token) (e : Expression) : Type 0 where

@@ -1,5 +1,5 @@
 -- Laws over the definitions.
-use Rattle.std.specs.Prelude.{◌≡◌, Bool, List}
+use Rattle.std.specs.Prelude.{◌≡◌, Bool, List, ◌++◌}
 use Rattle.st_expression.specs.declared.expression.Operand.{Operand}
 use Rattle.st_expression.specs.declared.expression.Expression.{Expression}
 use Rattle.st_expression.specs.declared.token.Token.{Token}
@@ -18,3 +18,8 @@ abbrev pub IsEitherWay : Type 0
 IsEitherWay = (first second : Token) (a b c ab bc left right : Expression) → level_of first ≡ level_of second
     → Joins first a b ab → Joins second ab c left → Joins second b c bc → Joins first a bc right
     → (env : Operand → Bool) → value env left ≡ value env right
+
+-- The tokens of an expression are those before the rest, and they are that expression whatever the rest is.
+abbrev pub HasTokens : Type 0
+HasTokens = (tokens rest : List Token) (e : Expression) → IsExpression tokens rest e
+    → (own : List Token) × (tokens ≡ own ++ rest) × ((other : List Token) → IsExpression (own ++ other) other e)

@@ -70,7 +70,7 @@ pub returns-in_err-e-in-Open-clause-fault : goal.returns-in_err-e-in-Open-clause
 returns-in_err-e-in-Open-clause-fault t c =
     let p = err_from_is_err_and c.from_residual-in_err-e-in-Open.result c.from_residual-in_err-e-in-Open.ensures.1 in
     rw (p.1, p.2) (fails_open _ _ _ _ _ _ (sym c.closer_than.ensures ∙ c.in_default.is) (with_first _ _ _ _ c.in_ok-token.ensures.first c.in-Open.is)
-        c.in_ok-within-in-Open.ensures.fewer c.in_err-e-in-Open.ensures.fault)
+    c.in_ok-within-in-Open.ensures.fewer c.in_err-e-in-Open.ensures.fault)
 
 pub returns-in_err-within-clause-fault : goal.returns-in_err-within-clause-fault
 returns-in_err-within-clause-fault t c =
@@ -81,4 +81,4 @@ pub returns-in_err-within-2-clause-fault : goal.returns-in_err-within-2-clause-f
 returns-in_err-within-2-clause-fault t c =
     let p = err_from_is_err_and c.from_residual-in_err-within-2.result c.from_residual-in_err-within-2.ensures.1 in
     rw (p.1, p.2) (deep_second _ _ _ _ _ _ _ _ _ c.in_err-within-2.ensures.none c.in_ok-first.ensures.read
-        c.in-Some-operator_of.ensures.operator c.in-Some-operator_of.ensures.level)
+    c.in-Some-operator_of.ensures.operator c.in-Some-operator_of.ensures.level)
