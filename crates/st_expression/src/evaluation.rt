@@ -24,12 +24,16 @@ pub fn evaluate(expression: &Expression, values: &[bool], outputs: &[bool]) -> b
         Expression::Constant(value) => *value,
         Expression::Operand(Operand::Variable(number)) => value_at(values, *number),
         Expression::Operand(Operand::Output(number)) => value_at(outputs, *number),
-        Expression::Not(a) => !evaluate(a, values, outputs),
-        Expression::Equal(a, b) => { evaluate(a, values, outputs) == evaluate(b, values, outputs) }
-        Expression::And(a, b) => evaluate(a, values, outputs) && evaluate(b, values, outputs),
-        Expression::Exclusive(a, b) => {
-            evaluate(a, values, outputs) != evaluate(b, values, outputs)
+        Expression::Not(negated) => !evaluate(negated, values, outputs),
+        Expression::Equal(first, second) => {
+            evaluate(first, values, outputs) == evaluate(second, values, outputs)
         }
-        Expression::Or(a, b) => evaluate(a, values, outputs) || evaluate(b, values, outputs),
+        Expression::And(first, second) => evaluate(first, values, outputs)
+            && evaluate(second, values, outputs),
+        Expression::Exclusive(first, second) => {
+            evaluate(first, values, outputs) != evaluate(second, values, outputs)
+        }
+        Expression::Or(first, second) => evaluate(first, values, outputs)
+            || evaluate(second, values, outputs),
     }
 }

@@ -73,31 +73,32 @@ fn begins_complement(level: Level, token: Token) -> bool
     matches!((level, token), (Level::Complement, Token::Not))
 }
 
-fn complement_of(alloc: Global, a: Expression) -> Result<Expression, ReadFault>
-    ensures not { IfOk result (λ e. IsNot a e) }
+/// NOT of an expression.
+fn complement_of(alloc: Global, negated: Expression) -> Result<Expression, ReadFault>
+    ensures not { IfOk result (λ e. IsNot negated e) }
     ensures memory { IfErr result (λ f. f ≡ Memory) }
 {
-    Ok(Expression::Not(Box::new(alloc, a)?))
+    Ok(Expression::Not(Box::new(alloc, negated)?))
 }
 
 /// Two expressions with an operator between them.
 fn join(
     alloc: Global,
     operator: Token,
-    a: Expression,
-    b: Expression,
+    first: Expression,
+    second: Expression,
 ) -> Result<Expression, ReadFault>
     requires { IsSome (level_of operator) }
-    ensures joined { IfOk result (λ e. Joins operator a b e) }
+    ensures joined { IfOk result (λ e. Joins operator first second e) }
     ensures memory { IfErr result (λ f. f ≡ Memory) }
 {
-    let a = Box::new(alloc, a)?;
-    let b = Box::new(alloc, b)?;
+    let first = Box::new(alloc, first)?;
+    let second = Box::new(alloc, second)?;
     Ok(match operator {
-        Token::Equal => Expression::Equal(a, b),
-        Token::And => Expression::And(a, b),
-        Token::Or => Expression::Or(a, b),
-        _ => Expression::Exclusive(a, b),
+        Token::Equal => Expression::Equal(first, second),
+        Token::And => Expression::And(first, second),
+        Token::Or => Expression::Or(first, second),
+        _ => Expression::Exclusive(first, second),
     })
 }
 
@@ -119,16 +120,16 @@ fn read_level(
             Token::Constant(on) => Ok((Expression::Constant(on), inside)),
             Token::Open => {
                 let within = fewer(left)?;
-                let (e, after) = read_level(alloc, Level::Disjunction, within, inside)?;
-                Ok((e, behind_close(after)?))
+                let (expression, after) = read_level(alloc, Level::Disjunction, within, inside)?;
+                Ok((expression, behind_close(after)?))
             }
             _ => Err(ReadFault::NoExpression),
         };
     };
     if begins_complement(level, token) {
         let within = fewer(left)?;
-        let (a, rest) = read_level(alloc, Level::Complement, within, inside)?;
-        return Ok((complement_of(alloc, a)?, rest));
+        let (negated, rest) = read_level(alloc, Level::Complement, within, inside)?;
+        return Ok((complement_of(alloc, negated)?, rest));
     }
     let (first, after) = read_level(alloc, tight, left, tokens)?;
     let Some((operator, others)) = operator_of(level, after) else {

@@ -13,7 +13,7 @@ pub returns-in_err-behind_close-in-Open-clause-fault :
 returns-in_err-behind_close-in-Open-clause-fault t c =
     let p = err_from_is_err_and c.from_residual-in_err-behind_close-in-Open.result c.from_residual-in_err-behind_close-in-Open.ensures.1 in
     rw (p.1, p.2) (fails_close _ _ _ _ _ _ _ c.in_err-behind_close-in-Open.ensures.none.0 (sym c.closer_than.ensures ∙ c.in_default.is)
-    (with_first _ _ _ _ c.in_ok-token.ensures.first c.in-Open.is) c.in_ok-e-in-Open.ensures.read c.in_err-behind_close-in-Open.ensures.none.1)
+    (with_first _ _ _ _ c.in_ok-token.ensures.first c.in-Open.is) c.in_ok-expression-in-Open.ensures.read c.in_err-behind_close-in-Open.ensures.none.1)
 
 pub returns-in-Operand-clause-read : goal.returns-in-Operand-clause-read
 returns-in-Operand-clause-read t c =
@@ -27,18 +27,18 @@ pub returns-in_ok-behind_close-in-Open-clause-read :
     goal.returns-in_ok-behind_close-in-Open-clause-read
 returns-in_ok-behind_close-in-Open-clause-read t c =
     begins_open _ _ _ _ _ _ (sym c.closer_than.ensures ∙ c.in_default.is) (with_first _ _ _ _ c.in_ok-token.ensures.first c.in-Open.is)
-    c.in_ok-e-in-Open.ensures.read c.in_ok-behind_close-in-Open.ensures.close
+    c.in_ok-expression-in-Open.ensures.read c.in_ok-behind_close-in-Open.ensures.close
 
-pub returns-in_err-a-clause-fault : goal.returns-in_err-a-clause-fault
-returns-in_err-a-clause-fault t c =
-    let p = err_from_is_err_and c.from_residual-in_err-a.result c.from_residual-in_err-a.ensures.1 in
+pub returns-in_err-negated-clause-fault : goal.returns-in_err-negated-clause-fault
+returns-in_err-negated-clause-fault t c =
+    let p = err_from_is_err_and c.from_residual-in_err-negated.result c.from_residual-in_err-negated.ensures.1 in
     rw (p.1, p.2) (fails_not _ _ _ _ _ _ (c.begins_complement.ensures.0 c.if-begins_complement.true).0
-    (with_first _ _ _ _ c.in_ok-token.ensures.first (c.begins_complement.ensures.0 c.if-begins_complement.true).1) c.in_ok-within.ensures.fewer c.in_err-a.ensures.fault)
+    (with_first _ _ _ _ c.in_ok-token.ensures.first (c.begins_complement.ensures.0 c.if-begins_complement.true).1) c.in_ok-within.ensures.fewer c.in_err-negated.ensures.fault)
 
 pub returns-then-begins_complement-clause-read : goal.returns-then-begins_complement-clause-read
 returns-then-begins_complement-clause-read t c =
     begins_not _ _ _ _ _ _ (c.begins_complement.ensures.0 c.if-begins_complement.true).0
-    (with_first _ _ _ _ c.in_ok-token.ensures.first (c.begins_complement.ensures.0 c.if-begins_complement.true).1) c.in_ok-a.ensures.read c.in_ok-complement_of.ensures.not
+    (with_first _ _ _ _ c.in_ok-token.ensures.first (c.begins_complement.ensures.0 c.if-begins_complement.true).1) c.in_ok-negated.ensures.read c.in_ok-complement_of.ensures.not
 
 pub returns-in_err-first-clause-fault : goal.returns-in_err-first-clause-fault
 returns-in_err-first-clause-fault t c =
@@ -66,11 +66,11 @@ returns-in_err-within-in-Open-clause-fault t c =
     let p = err_from_is_err_and c.from_residual-in_err-within-in-Open.result c.from_residual-in_err-within-in-Open.ensures.1 in
     rw (p.1, p.2) (deep_open _ _ _ _ _ c.in_err-within-in-Open.ensures.none (with_first _ _ _ _ c.in_ok-token.ensures.first c.in-Open.is))
 
-pub returns-in_err-e-in-Open-clause-fault : goal.returns-in_err-e-in-Open-clause-fault
-returns-in_err-e-in-Open-clause-fault t c =
-    let p = err_from_is_err_and c.from_residual-in_err-e-in-Open.result c.from_residual-in_err-e-in-Open.ensures.1 in
+pub returns-in_err-expression-in-Open-clause-fault : goal.returns-in_err-expression-in-Open-clause-fault
+returns-in_err-expression-in-Open-clause-fault t c =
+    let p = err_from_is_err_and c.from_residual-in_err-expression-in-Open.result c.from_residual-in_err-expression-in-Open.ensures.1 in
     rw (p.1, p.2) (fails_open _ _ _ _ _ _ (sym c.closer_than.ensures ∙ c.in_default.is) (with_first _ _ _ _ c.in_ok-token.ensures.first c.in-Open.is)
-    c.in_ok-within-in-Open.ensures.fewer c.in_err-e-in-Open.ensures.fault)
+    c.in_ok-within-in-Open.ensures.fewer c.in_err-expression-in-Open.ensures.fault)
 
 pub returns-in_err-within-clause-fault : goal.returns-in_err-within-clause-fault
 returns-in_err-within-clause-fault t c =
