@@ -1,0 +1,4 @@
+pub mod Grammar
+pub mod Laws
+pub mod Steps
+pub mod Value
