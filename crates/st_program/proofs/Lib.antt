@@ -1,0 +1,7 @@
+mod Ranges
+mod Declared
+mod Itemized
+mod Expressing
+mod Argued
+mod Simply
+mod Endings

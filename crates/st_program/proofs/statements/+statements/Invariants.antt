@@ -1,0 +1,11 @@
+use Rattle.std.proofs.Common.{length, ◌+◌, ◌*◌}
+use Rattle.st_program.proofs.statements.+statements.Given as goal
+
+abbrev pub decreases-statements_at : goal.decreases-statements_at
+decreases-statements_at l = 2 * length l.items.now + 1
+
+abbrev pub decreases-select_at : goal.decreases-select_at
+decreases-select_at l = 2 * length l.items.now
+
+abbrev pub decreases-otherwise_at : goal.decreases-otherwise_at
+decreases-otherwise_at l = 2 * length l.items.now

@@ -1,0 +1,10 @@
+pub mod Marks
+pub mod Symbols
+pub mod Phrases
+pub mod Declarations
+pub mod Formals
+pub mod Items
+pub mod Notes
+pub mod Expressions
+pub mod Statements
+pub mod Programs

@@ -1,0 +1,241 @@
+//! Lists of statements.
+
+ghost use Rattle.std.specs.Prelude.{◌≡◌, ◌≤◌, ◌<◌, List, length, IfOk};
+ghost use Rattle.st_statements.specs.declared.statement.StatementList.{StatementList};
+ghost use Rattle.st_program.specs.Statements.{Body, Condition, IsSelect, Otherwise, Reads, WithCopy, WithSimple, source_of};
+ghost use Rattle.st_program.specs.declared.item.Item.{Item};
+ghost use Rattle.st_program.specs.declared.notes.Note.{Note};
+
+use crate::arguments::Copied;
+use crate::expressions::{after, due_at, expect, expression_at, first_item};
+use crate::fault::{Expected, Refusal};
+use crate::item::Item;
+use crate::mark::{Mark, is_mark};
+use crate::notes::{Called, Note, add_note};
+use crate::simple::{Simple, simple_at};
+use st_expression::{Expression, Operand};
+use st_statements::StatementList;
+use std::alloc::Global;
+
+/// What the output of a statement is.
+fn source_of(simple: &Simple) -> Operand
+    ensures { result ≡ source_of simple.now }
+{
+    match simple {
+        Simple::Call { instance, .. } => Operand::Output(*instance),
+        Simple::Trigger { output, .. } => Operand::Variable(*output),
+        Simple::Assign { variable, .. } => Operand::Variable(*variable),
+        Simple::Return => Operand::Variable(0),
+    }
+}
+
+/// The statements behind a copy of an output, where it is copied.
+fn with_copy(
+    alloc: Global,
+    source: Operand,
+    copy: Option<Copied>,
+    others: StatementList,
+) -> Result<StatementList, Refusal>
+    ensures { IfOk result (WithCopy source copy others) }
+{
+    match copy {
+        Some(copied) => Ok(StatementList::Assign {
+            variable: copied.variable,
+            value: Expression::Operand(source),
+            next: Box::new(alloc, others)?,
+        }),
+        None => Ok(others),
+    }
+}
+
+/// The statements behind another.
+fn with_simple(
+    alloc: Global,
+    simple: Simple,
+    others: StatementList,
+) -> Result<StatementList, Refusal>
+    ensures { IfOk result (WithSimple simple others) }
+{
+    let next = Box::new(alloc, others)?;
+    Ok(match simple {
+        Simple::Assign { variable, value } => StatementList::Assign {
+            variable,
+            value,
+            next,
+        },
+        Simple::Trigger {
+            output,
+            memory,
+            clock,
+        } => StatementList::Trigger {
+            output,
+            memory,
+            clock,
+            next,
+        },
+        Simple::Call {
+            instance,
+            first,
+            second,
+        } => StatementList::Call {
+            instance,
+            first,
+            second,
+            next,
+        },
+        Simple::Return => StatementList::Return { next },
+    })
+}
+
+/// The statements behind another and the copy of its output.
+fn joined(
+    alloc: Global,
+    simple: Simple,
+    copy: Option<Copied>,
+    others: StatementList,
+) -> Result<StatementList, Refusal>
+    ensures { IfOk result (λ whole. (copied : StatementList) × WithCopy (source_of simple) copy others copied × WithSimple simple copied whole) }
+{
+    let source = source_of(&simple);
+    let copied = with_copy(alloc, source, copy, others)?;
+    with_simple(alloc, simple, copied)
+}
+
+/// An IF before other statements.
+fn select(
+    alloc: Global,
+    condition: Expression,
+    accepted: StatementList,
+    otherwise: StatementList,
+    others: StatementList,
+) -> Result<StatementList, Refusal>
+    ensures { IfOk result (IsSelect condition accepted otherwise others) }
+{
+    Ok(StatementList::Select {
+        condition,
+        accepted: Box::new(alloc, accepted)?,
+        otherwise: Box::new(alloc, otherwise)?,
+        next: Box::new(alloc, others)?,
+    })
+}
+
+/// The condition behind IF or ELSIF, and what is behind its THEN.
+fn condition_at<'a>(
+    alloc: Global,
+    mark: Mark,
+    items: &'a [Item],
+    notes: &mut Vec<Note>,
+) -> Result<(Expression, &'a [Item]), Refusal>
+    ensures condition { IfOk result (λ x. Condition mark items.now x.1.now notes.old.items notes.new.items x.0) }
+    ensures shorter { IfOk result (λ x. length x.1.now < length items.now) }
+{
+    let fault = due_at(items, Expected::Mark(mark));
+    let Some((item, behind)) = first_item(items) else {
+        return Err(fault);
+    };
+    if !is_mark(item.mark, mark) {
+        return Err(fault);
+    }
+    add_note(notes, item.word, Called::Nothing)?;
+    let (condition, end) = expression_at(alloc, behind)?;
+    let rest = expect(Mark::Then, end)?;
+    Ok((condition, rest))
+}
+
+/// What is behind semicolons with nothing before them.
+fn after_empty(items: &[Item]) -> &[Item]
+    ensures empty { (rest : List Item) (before after : List Note) (all : StatementList) → Reads Body result.now rest before after all
+        → Reads Body items.now rest before after all }
+    ensures shorter { length result.now ≤ length items.now }
+{
+    let mut rest = items;
+    while let Some(behind) = after(Mark::Semicolon, rest) {
+        rest = behind;
+    }
+    rest
+}
+
+/// What begins where a statement is due.
+enum Start {
+    Simple,
+    Select,
+    /// The end of the text, or a keyword behind the last statement of a list.
+    End,
+}
+
+/// What begins some items.
+fn start_of(items: &[Item]) -> Start {
+    let Some((item, _)) = first_item(items) else {
+        return Start::End;
+    };
+    match item.mark {
+        Mark::If => Start::Select,
+        Mark::Elsif | Mark::Else | Mark::EndIf | Mark::EndProgram => Start::End,
+        _ => Start::Simple,
+    }
+}
+
+/// The statements that items begin with, and what is behind them.
+#[cycle(statements)]
+pub(crate) fn statements_at<'a>(
+    alloc: Global,
+    items: &'a [Item],
+    notes: &mut Vec<Note>,
+) -> Result<(StatementList, &'a [Item]), Refusal>
+    ensures reads { IfOk result (λ x. Reads Body items.now x.1.now notes.old.items notes.new.items x.0) }
+    ensures shorter { IfOk result (λ x. length x.1.now ≤ length items.now) }
+{
+    let begun = after_empty(items);
+    match start_of(begun) {
+        Start::End => Ok((StatementList::End, begun)),
+        Start::Select => select_at(alloc, begun, notes),
+        Start::Simple => {
+            let (simple, copy, behind) = simple_at(alloc, begun, notes)?;
+            let (others, rest) = statements_at(alloc, behind, notes)?;
+            Ok((joined(alloc, simple, copy, others)?, rest))
+        }
+    }
+}
+
+/// An IF and the statements behind it, and what is behind them.
+#[cycle(statements)]
+fn select_at<'a>(
+    alloc: Global,
+    items: &'a [Item],
+    notes: &mut Vec<Note>,
+) -> Result<(StatementList, &'a [Item]), Refusal>
+    ensures reads { IfOk result (λ x. Reads Body items.now x.1.now notes.old.items notes.new.items x.0) }
+    ensures shorter { IfOk result (λ x. length x.1.now < length items.now) }
+{
+    let (condition, arm) = condition_at(alloc, Mark::If, items, notes)?;
+    let (accepted, other) = statements_at(alloc, arm, notes)?;
+    let (otherwise, end) = otherwise_at(alloc, other, notes)?;
+    let behind = expect(Mark::Semicolon, end)?;
+    let (others, rest) = statements_at(alloc, behind, notes)?;
+    Ok((select(alloc, condition, accepted, otherwise, others)?, rest))
+}
+
+/// What is run where a condition is FALSE, up to END_IF, and what is behind that.
+#[cycle(statements)]
+fn otherwise_at<'a>(
+    alloc: Global,
+    items: &'a [Item],
+    notes: &mut Vec<Note>,
+) -> Result<(StatementList, &'a [Item]), Refusal>
+    ensures reads { IfOk result (λ x. Reads Otherwise items.now x.1.now notes.old.items notes.new.items x.0) }
+    ensures shorter { IfOk result (λ x. length x.1.now < length items.now) }
+{
+    if let Some(rest) = after(Mark::EndIf, items) {
+        return Ok((StatementList::End, rest));
+    }
+    if let Some(arm) = after(Mark::Else, items) {
+        let (all, end) = statements_at(alloc, arm, notes)?;
+        let rest = expect(Mark::EndIf, end)?;
+        return Ok((all, rest));
+    }
+    let (condition, arm) = condition_at(alloc, Mark::Elsif, items, notes)?;
+    let (accepted, other) = statements_at(alloc, arm, notes)?;
+    let (otherwise, rest) = otherwise_at(alloc, other, notes)?;
+    let whole = select(alloc, condition, accepted, otherwise, StatementList::End)?;
+    Ok((whole, rest))
+}

@@ -1,0 +1,5 @@
+mod Bytes
+mod Fronts
+mod Lists
+mod Walks
+mod Steps
