@@ -1,0 +1,11 @@
+pub mod Acted
+pub mod Same
+pub mod Alike
+pub mod Arriving
+pub mod Taking
+pub mod Rungs
+pub mod Preparing
+pub mod Within
+pub mod Onward
+pub mod Lower
+pub mod Whole

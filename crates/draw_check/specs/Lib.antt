@@ -1,0 +1,4 @@
+pub mod Acted
+pub mod Groups
+pub mod Meaning
+pub mod Steps
