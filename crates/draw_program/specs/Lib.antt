@@ -1,0 +1,3 @@
+pub mod Addresses
+pub mod Declarations
+pub mod Drawn
