@@ -31,7 +31,7 @@ _ladder() {
     local options file='' coil='' every='' place=0 number
     COMPREPLY=()
     if ((COMP_CWORD == 1)); then
-        mapfile -t COMPREPLY < <(compgen -W 'check causes show sim uses never reach diff import explain help --help' -- "$word")
+        mapfile -t COMPREPLY < <(compgen -W 'check causes show sim uses never reach diff draw import explain help --help' -- "$word")
         return
     fi
     case $subcommand in
@@ -40,13 +40,14 @@ _ladder() {
         sim) options='--state --save --every --watch --watch-all --changes --expect --progress --vcd --aliases --why --help' ;;
         check) options='--warn --aliases --why --help' ;;
         uses) options='--aliases --why --help' ;;
+        draw) options='--why --help' ;;
         import) options='--open --control --hal --why --help' ;;
         never) options='--state --off --pairs --quiet --aliases --why --help' ;;
         reach) options='--state --at --every --scans --states --both --gap --progress --why --help' ;;
         diff) options='--state --new-state --at --after --upto --limit --scans --for --every --grouped --terms --st --order --looks --reachable --runs --states --save --all-inputs --progress --quiet --aliases --why --help' ;;
         explain) options='--help' ;;
         help)
-            mapfile -t COMPREPLY < <(compgen -W 'check causes show sim uses never reach diff import explain' -- "$word")
+            mapfile -t COMPREPLY < <(compgen -W 'check causes show sim uses never reach diff draw import explain' -- "$word")
             return
             ;;
     esac

@@ -71,13 +71,14 @@ complete -c ladder -n 'test (count (__ladder_places)) = 0' -a sim -d 'Scan a sti
 complete -c ladder -n 'test (count (__ladder_places)) = 0' -a uses -d 'Print where each name is drawn'
 complete -c ladder -n 'test (count (__ladder_places)) = 0' -a reach -d 'Write a run that switches a coil ON, or say that there is none'
 complete -c ladder -n 'test (count (__ladder_places)) = 0' -a diff -d 'Say what a change of a program changes'
+complete -c ladder -n 'test (count (__ladder_places)) = 0' -a draw -d 'Draw a program in Structured Text'
 complete -c ladder -n 'test (count (__ladder_places)) = 0' -a import -d 'Write the program text of a ClassicLadder project'
 complete -c ladder -n 'test (count (__ladder_places)) = 0' -a never -d 'Print what can never come ON'
 complete -c ladder -n 'test (count (__ladder_places)) = 0' -a explain -d 'Say what a fault means'
 complete -c ladder -n 'test (count (__ladder_places)) = 0' -a help -d 'Print help'
-complete -c ladder -n '__ladder_at help 1' -a 'check causes show sim uses never reach diff import explain'
+complete -c ladder -n '__ladder_at help 1' -a 'check causes show sim uses never reach diff draw import explain'
 
-complete -c ladder -n '__ladder_at check,causes,show,sim,uses,never,reach,diff,import more 0' -l why -d 'Faults are explained'
+complete -c ladder -n '__ladder_at check,causes,show,sim,uses,never,reach,diff,draw,import more 0' -l why -d 'Faults are explained'
 complete -c ladder -n '__ladder_at check,causes,show,sim,uses,never,diff more 0' -l aliases -d 'Aliases in place of names'
 complete -c ladder -n '__ladder_at check more 0' -l warn -d 'What is most likely not meant'
 complete -c ladder -n '__ladder_at causes,show more 0' -l all-inputs -d 'All inputs, in order of declaration'
@@ -147,7 +148,7 @@ complete -c ladder -n '__ladder_at sim more 0' -l progress -d 'Tell how far the 
 complete -c ladder -n '__ladder_at sim more 0' -l vcd -d 'A waveform in place of the trace'
 complete -c ladder -n '__ladder_at sim more 0' -l save -r -F -d 'The file that gets the state after the last scan'
 
-complete -c ladder -n '__ladder_at check,causes,show,sim,uses,never,reach,diff,import 1' -F
+complete -c ladder -n '__ladder_at check,causes,show,sim,uses,never,reach,diff,draw,import 1' -F
 complete -c ladder -n '__ladder_at sim,diff 2' -F
 complete -c ladder -n '__ladder_at explain more 0' -a '(__ladder_codes)'
 complete -c ladder -n '__ladder_at causes 2; and not __ladder_each' -a '(__ladder_coils)'

@@ -436,6 +436,11 @@ pub enum Request {
         /// The HAL file after whose signals inputs and outputs are named.
         hal: Option<String>,
     },
+    /// The drawing of a program in Structured Text.
+    Draw {
+        /// The file of the text.
+        file: String,
+    },
 }
 
 /// What a command line asks for.
@@ -459,7 +464,7 @@ pub enum Task {
 #[derive(Drop)]
 pub struct CommandLine {
     pub request: Request,
-    /// Whether aliases are printed in place of names; an import has none.
+    /// Whether aliases are printed in place of names; an import and a drawing have none.
     pub aliases: bool,
     /// Whether a fault is explained, after its line.
     pub why: bool,

@@ -217,6 +217,7 @@ fn request_of(alloc: Global, name: &str, found: &ArgMatches<'_>) -> Result<Reque
         "show" => show_request(alloc, found),
         "sim" => sim_request(alloc, found),
         "import" => import_request(alloc, found),
+        "draw" => draw_request(alloc, found),
         _ => Err(WordFault::Usage),
     }
 }
@@ -238,6 +239,15 @@ fn uses_request(alloc: Global, found: &ArgMatches<'_>) -> Result<Request, WordFa
 {
     let file = text(alloc, found, "file")?;
     Ok(Request::Uses { file })
+}
+
+/// The request of `draw`.
+fn draw_request(alloc: Global, found: &ArgMatches<'_>) -> Result<Request, WordFault>
+    ensures ok { IfOk result (Asks (codes "draw") (rows_of (found_of found.now))) }
+    ensures err { IfErr result (UsageWhere (AsksNone (codes "draw") (rows_of (found_of found.now)))) }
+{
+    let file = text(alloc, found, "file")?;
+    Ok(Request::Draw { file })
 }
 
 /// The request of `import`, with how elements without a counterpart are read.

@@ -172,6 +172,7 @@ pub(crate) fn first_unknown<'a>(decls: &Decls, request: &'a Request) -> Option<W
         | Request::Sim(_)
         | Request::Waves(_)
         | Request::Uses { .. }
-        | Request::Import { .. } => None,
+        | Request::Import { .. }
+        | Request::Draw { .. } => None,
     }
 }

@@ -6,25 +6,107 @@ ghost use Rattle.cli_options.specs.CommandLine.{IsApp, causes_app, check_app, la
 ghost use Rattle.cli_options.specs.Table.{bare_app, with_all, word_rule};
 
 use crate::examples;
-use crate::help::{
-    AFTER_HELP, ALIASES_HELP, ALL_COILS_HELP, ALL_HELP, ANY_HELP, AT_HELP, CAUSES_ABOUT,
-    CHANGES_HELP, CHECK_ABOUT, CODES_HELP, COIL_HELP, CONTROL_HELP, DIFF_ABOUT, DIFF_AFTER_HELP,
-    DIFF_ALL_HELP, DIFF_AT_HELP, DIFF_COIL_HELP, DIFF_GROUPED_HELP, DIFF_INPUTS_HELP,
-    DIFF_LOOKS_HELP, DIFF_ORDER_HELP, DIFF_PROGRESS_HELP, DIFF_REACHABLE_HELP, DIFF_RUNS_HELP,
-    DIFF_SAVE_HELP, DIFF_SCANS_HELP, DIFF_STATE_HELP, DIFF_STATEMENT_HELP, DIFF_STATES_HELP,
-    DIFF_TERMS_HELP, DIFF_UPTO_HELP, EVERY_HELP, EXPECT_HELP, EXPLAIN_ABOUT, EXPLAIN_HELP, FAULTS,
-    FILE_HELP, FILM_HELP, FOR_HELP, GROUPED_HELP, HAL_HELP, HOLD_HELP, HTML_HELP, IMPORT_ABOUT,
-    INPUTS_HELP, LADDER_ABOUT, LIMIT_HELP, LOOKS_HELP, MUST_HELP, NEVER_ABOUT, NEVER_OFF_HELP,
-    NEW_HELP, NEW_STATE_HELP, NUMBER_HELP, OFF_HELP, OLD_HELP, OPEN_HELP, ORDER_HELP, PAIRS_HELP,
-    PROGRESS_HELP, PROJECT_HELP, QUIET_HELP, REACH_ABOUT, REACH_AT_HELP, REACH_BOTH_HELP,
-    REACH_EVERY_HELP, REACH_GAP_HELP, REACH_INPUTS_HELP, REACH_NAME_HELP, REACH_PROGRESS_HELP,
-    REACH_SCANS_HELP, REACH_STATES_HELP, REACHABLE_HELP, RELEVANT_HELP, RUN_STATES_HELP, RUNS_HELP,
-    SAVE_HELP, SCANS_HELP, SHOW_ABOUT, SHOWN_HELP, SIM_ABOUT, SIM_PROGRESS_HELP, STATE_HELP,
-    STATEMENT_HELP, STIMULUS_HELP, TERMS_HELP, UPTO_HELP, USES_ABOUT, WARN_HELP, WATCH_ALL_HELP,
-    WATCH_HELP, WAVES_HELP, WHY_HELP,
-};
-use clap::{Arg, ArgAction, Command, value_parser};
-use std::alloc::{AllocError, Global};
+use crate::help::AFTER_HELP;
+use crate::help::ALIASES_HELP;
+use crate::help::ALL_COILS_HELP;
+use crate::help::ALL_HELP;
+use crate::help::ANY_HELP;
+use crate::help::AT_HELP;
+use crate::help::CAUSES_ABOUT;
+use crate::help::CHANGES_HELP;
+use crate::help::CHECK_ABOUT;
+use crate::help::CODES_HELP;
+use crate::help::COIL_HELP;
+use crate::help::CONTROL_HELP;
+use crate::help::DIFF_ABOUT;
+use crate::help::DIFF_AFTER_HELP;
+use crate::help::DIFF_ALL_HELP;
+use crate::help::DIFF_AT_HELP;
+use crate::help::DIFF_COIL_HELP;
+use crate::help::DIFF_GROUPED_HELP;
+use crate::help::DIFF_INPUTS_HELP;
+use crate::help::DIFF_LOOKS_HELP;
+use crate::help::DIFF_ORDER_HELP;
+use crate::help::DIFF_PROGRESS_HELP;
+use crate::help::DIFF_REACHABLE_HELP;
+use crate::help::DIFF_RUNS_HELP;
+use crate::help::DIFF_SAVE_HELP;
+use crate::help::DIFF_SCANS_HELP;
+use crate::help::DIFF_STATE_HELP;
+use crate::help::DIFF_STATEMENT_HELP;
+use crate::help::DIFF_STATES_HELP;
+use crate::help::DIFF_TERMS_HELP;
+use crate::help::DIFF_UPTO_HELP;
+use crate::help::DRAW_ABOUT;
+use crate::help::EVERY_HELP;
+use crate::help::EXPECT_HELP;
+use crate::help::EXPLAIN_ABOUT;
+use crate::help::EXPLAIN_HELP;
+use crate::help::FAULTS;
+use crate::help::FILE_HELP;
+use crate::help::FILM_HELP;
+use crate::help::FOR_HELP;
+use crate::help::GROUPED_HELP;
+use crate::help::HAL_HELP;
+use crate::help::HOLD_HELP;
+use crate::help::HTML_HELP;
+use crate::help::IMPORT_ABOUT;
+use crate::help::INPUTS_HELP;
+use crate::help::LADDER_ABOUT;
+use crate::help::LIMIT_HELP;
+use crate::help::LOOKS_HELP;
+use crate::help::MUST_HELP;
+use crate::help::NEVER_ABOUT;
+use crate::help::NEVER_OFF_HELP;
+use crate::help::NEW_HELP;
+use crate::help::NEW_STATE_HELP;
+use crate::help::NUMBER_HELP;
+use crate::help::OFF_HELP;
+use crate::help::OLD_HELP;
+use crate::help::OPEN_HELP;
+use crate::help::ORDER_HELP;
+use crate::help::PAIRS_HELP;
+use crate::help::PROGRESS_HELP;
+use crate::help::PROJECT_HELP;
+use crate::help::QUIET_HELP;
+use crate::help::REACH_ABOUT;
+use crate::help::REACH_AT_HELP;
+use crate::help::REACH_BOTH_HELP;
+use crate::help::REACH_EVERY_HELP;
+use crate::help::REACH_GAP_HELP;
+use crate::help::REACH_INPUTS_HELP;
+use crate::help::REACH_NAME_HELP;
+use crate::help::REACH_PROGRESS_HELP;
+use crate::help::REACH_SCANS_HELP;
+use crate::help::REACH_STATES_HELP;
+use crate::help::REACHABLE_HELP;
+use crate::help::RELEVANT_HELP;
+use crate::help::RUN_STATES_HELP;
+use crate::help::RUNS_HELP;
+use crate::help::SAVE_HELP;
+use crate::help::SCANS_HELP;
+use crate::help::SHOW_ABOUT;
+use crate::help::SHOWN_HELP;
+use crate::help::SIM_ABOUT;
+use crate::help::SIM_PROGRESS_HELP;
+use crate::help::STATE_HELP;
+use crate::help::STATEMENT_HELP;
+use crate::help::STATEMENTS_HELP;
+use crate::help::STIMULUS_HELP;
+use crate::help::TERMS_HELP;
+use crate::help::UPTO_HELP;
+use crate::help::USES_ABOUT;
+use crate::help::WARN_HELP;
+use crate::help::WATCH_ALL_HELP;
+use crate::help::WATCH_HELP;
+use crate::help::WAVES_HELP;
+use crate::help::WHY_HELP;
+use clap::Arg;
+use clap::ArgAction;
+use clap::Command;
+use clap::value_parser;
+use std::alloc::AllocError;
+use std::alloc::Global;
 
 /// The version of the program.
 const VERSION: &str = "1.0";
@@ -198,6 +280,11 @@ const IMPORT: &[Word] = &[
     Word::Place("file", "PROJECT", PROJECT_HELP),
 ];
 
+const DRAW: &[Word] = &[
+    Word::Flag("why", EXPLAIN_HELP),
+    Word::Place("file", "FILE", STATEMENTS_HELP),
+];
+
 const EXPLAIN: &[Word] = &[Word::List("codes", "CODE", CODES_HELP)];
 
 /// The subcommands, in three tables: the proof of a function that names a table goes through all of it.
@@ -255,6 +342,12 @@ const OTHER_SUBCOMMANDS: &[Subcommand] = &[
         about: DIFF_ABOUT,
         words: DIFF,
         examples: examples::DIFF,
+    },
+    Subcommand {
+        name: "draw",
+        about: DRAW_ABOUT,
+        words: DRAW,
+        examples: examples::DRAW,
     },
     Subcommand {
         name: "import",

@@ -32,6 +32,10 @@ pub(crate) const DIFF: &str = "Examples:
   ladder diff old.ld new.ld                               is each name the same?
   ladder diff --grouped --all-inputs old.ld new.ld Motor  of one coil";
 
+pub(crate) const DRAW: &str = "Examples:
+  ladder draw pump.st > pump.ld                       from Structured Text
+  ladder draw pump.st | ladder causes --any - Pump    what switches it on";
+
 pub(crate) const IMPORT: &str = "Examples:
   ladder import plant.clp > plant.ld                  from ClassicLadder
   ladder import --hal plant.hal plant.clp > plant.ld  with its pins";

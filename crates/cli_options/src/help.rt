@@ -15,6 +15,7 @@ pub(crate) const FAULTS: &str =
               X6: a write failed; X7: out of memory
   P1 to P8    the file is no project of ClassicLadder, or has what can't be
               carried over
+  T1 to T10   the text is no program in Structured Text, or can't be drawn
   usage       the words are not those of a request
 `ladder explain CODE` says more of each, and `ladder help COMMAND` has examples.
 Status: 0 all was written, 1 a fault stopped it, 2 wrong words.
@@ -162,6 +163,10 @@ is written: `reached N`; not with --grouped,
 pub(crate) const DIFF_ALL_HELP: &str = "Lists all inputs that both programs have, in the
 order of OLD";
 
+pub(crate) const DRAW_ABOUT: &str =
+    "Draws a program in Structured Text: writes the program text whose
+scan does what its statements do, or says why there is none";
+
 pub(crate) const IMPORT_ABOUT: &str =
     "Writes the program text of a ClassicLadder project, or says what of
 it can't be carried over";
@@ -206,6 +211,9 @@ stay";
 
 pub(crate) const FILE_HELP: &str = "The program: declarations and rungs; at most
 1048576 bytes";
+
+pub(crate) const STATEMENTS_HELP: &str = "The program in Structured Text, at most 1048576
+bytes, or `-` for standard input";
 
 pub(crate) const PROJECT_HELP: &str = "The ClassicLadder project, a .clp file; at most
 1048576 bytes";

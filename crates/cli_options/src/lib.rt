@@ -11,6 +11,7 @@ mod list;
 mod pages;
 mod projects;
 mod questions;
+mod statements;
 mod words;
 
 pub use command::ladder;

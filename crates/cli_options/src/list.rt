@@ -1,17 +1,17 @@
 //! The codes of docs/user/faults.md, with their pages. `tests/pages.py --write` writes this file.
 
-use crate::{declarations, drawing, files, projects, questions, words};
+use crate::{declarations, drawing, files, projects, questions, statements, words};
 
 /// The codes, in the order of the document.
-pub(crate) const CODES: [&str; 50] = [
+pub(crate) const CODES: [&str; 60] = [
     "V1", "V2", "V3", "V4", "V5", "V6", "V7", "V8", "V9", "A1", "G1", "G2", "G3", "G4", "G5", "G6",
     "G7", "G8", "G9", "G10", "G11", "G12", "G13", "G14", "G15", "C1", "C2", "C3", "C4", "C5", "C6",
     "C7", "C8", "S1", "X1", "X2", "X3", "X4", "X5", "X6", "X7", "P1", "P2", "P3", "P4", "P5", "P6",
-    "P7", "P8", "usage",
+    "P7", "P8", "T1", "T2", "T3", "T4", "T5", "T6", "T7", "T8", "T9", "T10", "usage",
 ];
 
 /// The page of each code.
-pub(crate) const PAGES: [&str; 50] = [
+pub(crate) const PAGES: [&str; 60] = [
     declarations::V1,
     declarations::V2,
     declarations::V3,
@@ -61,6 +61,16 @@ pub(crate) const PAGES: [&str; 50] = [
     projects::P6,
     projects::P7,
     projects::P8,
+    statements::T1,
+    statements::T2,
+    statements::T3,
+    statements::T4,
+    statements::T5,
+    statements::T6,
+    statements::T7,
+    statements::T8,
+    statements::T9,
+    statements::T10,
     words::USAGE,
 ];
 
@@ -115,5 +125,15 @@ P5: a section whose rungs don't lead to its last
 P6: an element that can't be carried over
 P7: too many rungs, variables or blocks
 P8: the text isn't the project
+T1: a character that isn't allowed here
+T2: another word is due
+T3: a name that isn't declared, or is declared twice
+T4: a type that a drawing can't have
+T5: a statement or an operator that can't be drawn
+T6: what a drawing can't read or write of a block
+T7: an input that is written
+T8: a block that is called twice, or whose preset is missing
+T9: a drawing that would be too large
+T10: the drawing isn't the statements
 usage: the arguments are not those of a request
 ";

@@ -5,11 +5,12 @@ use Rattle.text_cross_reference.specs.Uses.{uses_text}
 use Rattle.cli_inputs.specs.declared.fault.ToolFault.{ToolFault}
 use Rattle.cli_inputs.specs.declared.fault.ToolFault.TheVariants as fault
 use Rattle.cli_arguments.specs.declared.request.Request.{Request}
-use Rattle.cli_arguments.specs.declared.request.Request.TheVariants.{Causes, Check, Groups, Held, Import, Show, Sim, Uses}
+use Rattle.cli_arguments.specs.declared.request.Request.TheVariants.{Causes, Check, Draw, Groups, Held, Import, Show, Sim, Uses}
 use Rattle.cli_arguments.specs.declared.request.Request.TheVariants as request
 use Rattle.cli_inputs.specs.Setting.{Given, HasProgramFault, HasSettingFault}
 use Rattle.cli_inputs.specs.Reports.{IsReported, Logs, Refuses}
 use Rattle.clp_project.specs.declared.reading.ReadingOptions.{ReadingOptions}
+use Rattle.cli_draw.specs.Drawing.{BreaksDrawing, Draws}
 use Rattle.cli_import.specs.Carrying.{BreaksCarrying, Carries}
 use Rattle.cli_lists.specs.Lists.{BreaksGroups, BreaksHeldBy, BreaksList, BreaksProgress, BreaksRelevant, CountsGroups, CountsHeldBy, CountsList, CountsProgress, CountsRelevant, HasHeldFaultBy, HasListFault, HasRelevantFault, after_for, scans_of}
 use Rattle.cli_states.specs.AnyState.{BreaksPossible, CountsPossible, HasPossibleFault}
@@ -42,6 +43,7 @@ IsDone (request.Expect r) g old new = IsExpected g r old new
 IsDone (request.Waves r) g old new = IsWaved g r.every old.out new.out × (new.save ≡ old.save) × (new.err ≡ old.err)
 IsDone (Uses file) g old new = Prints uses_text g (PutsAll old.out new.out) × (new.save ≡ old.save) × (new.err ≡ old.err)
 IsDone (Import opened control_on file hal) g old new = Carries (reading_of opened control_on) g.program (PutsAll old.out new.out) × (new.save ≡ old.save) × (new.err ≡ old.err)
+IsDone (Draw file) g old new = Draws g.program (PutsAll old.out new.out) × (new.save ≡ old.save) × (new.err ≡ old.err)
 
 -- the faults that the texts and arguments of a request can have
 abbrev pub HasFault : Request → Given → ToolFault → Type 0
@@ -62,6 +64,7 @@ HasFault (request.Expect r) g = HasWatchFault g r.watch
 HasFault (request.Waves r) g = HasSettingFault g
 HasFault (Uses file) g = HasProgramFault g
 HasFault (Import opened control_on file hal) g = λ f. ⊥
+HasFault (Draw file) g = λ f. ⊥
 
 -- Status 1, by a fault while running.
 abbrev pub Breaks : Request → Given → Logs → Logs → Type 0
@@ -84,6 +87,7 @@ Breaks (request.Waves r) g old new = BreaksWaves g r.every old new × (new.save 
 Breaks (Uses file) g old new =
     Prints uses_text g (PutsPrefix old.out new.out) × (new.save ≡ old.save) × IsReported g old.err new.err fault.Write
 Breaks (Import opened control_on file hal) g old new = BreaksCarrying (reading_of opened control_on) g.why g.program old.out new.out old.err new.err × (new.save ≡ old.save)
+Breaks (Draw file) g old new = BreaksDrawing g.why g.program old.out new.out old.err new.err × (new.save ≡ old.save)
 
 -- Status 1.
 abbrev pub IsFailed : Request → Given → Logs → Logs → Type 0

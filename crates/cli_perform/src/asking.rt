@@ -98,7 +98,8 @@ fn check_for(
         | Request::Expect(_)
         | Request::Waves(_)
         | Request::Uses { .. }
-        | Request::Import { .. } => Ok(()),
+        | Request::Import { .. }
+        | Request::Draw { .. } => Ok(()),
     }
 }
 

@@ -43,7 +43,8 @@ fn form_of(request: &Request) -> GroupFormat {
         | Request::Expect(_)
         | Request::Waves(_)
         | Request::Uses { .. }
-        | Request::Import { .. } => GroupFormat::Table,
+        | Request::Import { .. }
+        | Request::Draw { .. } => GroupFormat::Table,
     }
 }
 
@@ -86,7 +87,8 @@ fn state_of(request: &Request) -> Option<&str> {
         | Request::Expect(_)
         | Request::Waves(_)
         | Request::Uses { .. }
-        | Request::Import { .. } => None,
+        | Request::Import { .. }
+        | Request::Draw { .. } => None,
     }
 }
 
@@ -109,7 +111,8 @@ fn program_of(request: &Request) -> &str {
         | Request::Expect(_)
         | Request::Waves(_)
         | Request::Uses { .. }
-        | Request::Import { .. } => "",
+        | Request::Import { .. }
+        | Request::Draw { .. } => "",
     }
 }
 

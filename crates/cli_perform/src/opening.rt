@@ -172,7 +172,9 @@ pub(crate) fn readers_of<'a, 'p>(
     request: &'p Request,
 ) -> Readers<CountedReader<NamedFile<'a, 'p>>> {
     match request {
-        Request::Check { file, .. } | Request::Uses { file } => alone(opening, file.as_str()),
+        Request::Check { file, .. } | Request::Uses { file } | Request::Draw { file } => {
+            alone(opening, file.as_str())
+        }
         Request::Import { file, hal, .. } => imported(opening, file.as_str(), hal),
         Request::Causes { list, .. }
         | Request::Progress { list, .. }

@@ -3,11 +3,13 @@
 ghost use Rattle.std.specs.Prelude.{◌≡◌, ◌≤◌, [], option_map, unwrap_or, vec_items};
 ghost use Rattle.cli_inputs.specs.Reports.{logs};
 ghost use Rattle.io_text.specs.Log.{PutsAll};
+ghost use Rattle.cli_draw.specs.Drawing.{BreaksDrawing, Draws};
 ghost use Rattle.cli_import.specs.Carrying.{BreaksCarrying, Carries};
 ghost use Rattle.cli_perform.specs.Performs.{IsDone, IsFailed, reading_of};
 ghost use Rattle.cli_inputs.specs.Setting.{given_by};
 
 use cli_arguments::Request;
+use cli_draw::write_drawing;
 use cli_import::carry;
 use cli_inputs::Texts;
 use cli_lists::{list_causes, list_groups, list_held, list_progress, list_relevant};
@@ -45,6 +47,15 @@ fn import_project<O: Sink, E: Sink>(
     let reading = ReadingOptions { opened, control_on };
     let hal = hal_of(texts);
     carry(alloc, reading, texts.why, &texts.program, hal, out, err)
+}
+
+/// Writes the drawing of a program in Structured Text.
+fn draw_text<O: Sink, E: Sink>(alloc: Global, texts: &Texts, out: &mut O, err: &mut E) -> u8
+    ensures status { result ≤ 1 }
+    ensures done { result ≡ 0 → Draws (given_by texts.now).program (PutsAll (O.log out.old) (O.log out.new)) × (E.log err.new ≡ E.log err.old) }
+    ensures failed { result ≡ 1 → BreaksDrawing (given_by texts.now).why (given_by texts.now).program (O.log out.old) (O.log out.new) (E.log err.old) (E.log err.new) }
+{
+    write_drawing(alloc, texts.why, &texts.program, out, err)
 }
 
 /// Performs a request on its texts: its text on `out`, the line of counts on `err`, and the state that is to be saved on `save`.
@@ -104,6 +115,7 @@ pub fn perform<O: Sink, S: Sink, E: Sink>(
             control_on,
             ..
         } => import_project(alloc, *opened, *control_on, texts, out, err),
+        Request::Draw { .. } => draw_text(alloc, texts, out, err),
         Request::Sim(sim) => { trace(alloc, texts, sim.every, sim.save.is_some(), out, save, err) }
     }
 }

@@ -306,7 +306,8 @@ fn saving_of(request: &Request) -> Option<Saving<'_>> {
         | Request::Film(_)
         | Request::Waves(_)
         | Request::Uses { .. }
-        | Request::Import { .. } => None,
+        | Request::Import { .. }
+        | Request::Draw { .. } => None,
     }
 }
 

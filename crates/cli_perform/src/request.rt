@@ -26,7 +26,8 @@ pub fn ask_of(request: &mut Request, coil: String)
         | Request::Expect(_)
         | Request::Waves(_)
         | Request::Uses { .. }
-        | Request::Import { .. } => (),
+        | Request::Import { .. }
+        | Request::Draw { .. } => (),
     }
 }
 
@@ -51,6 +52,7 @@ pub fn is_quiet(request: &Request) -> bool
         | Request::Expect(_)
         | Request::Waves(_)
         | Request::Uses { .. }
-        | Request::Import { .. } => false,
+        | Request::Import { .. }
+        | Request::Draw { .. } => false,
     }
 }

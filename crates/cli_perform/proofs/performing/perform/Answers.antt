@@ -80,3 +80,11 @@ returns-in-Import-clause-done g c = λ status.
 
 pub returns-in-Expect-clause-failed : goal.returns-in-Expect-clause-failed
 returns-in-Expect-clause-failed g c = λ status. rw c.in-Expect.is (c.expect.ensures.failed status)
+
+pub returns-in-Draw-clause-done : goal.returns-in-Draw-clause-done
+returns-in-Draw-clause-done g c = λ status.
+    let done = c.draw_text.ensures.done status in
+    rw c.in-Draw.is (done.0, refl, done.1)
+
+pub returns-in-Draw-clause-failed : goal.returns-in-Draw-clause-failed
+returns-in-Draw-clause-failed g c = λ status. rw c.in-Draw.is (inr (c.draw_text.ensures.failed status, refl))

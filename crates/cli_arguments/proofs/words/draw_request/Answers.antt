@@ -1,0 +1,10 @@
+use Rattle.std.proofs.lemmas.Result.{err_from_is_err_and}
+use Rattle.clap.specs.Words.{found_of, rows_of}
+use Rattle.cli_arguments.proofs.Faults.{no_draw, usage_weaker}
+use Rattle.cli_arguments.proofs.words.draw_request.Goals as goal
+
+pub returns-in_err-file-clause-err : goal.returns-in_err-file-clause-err
+returns-in_err-file-clause-err c =
+    let none = no_draw (rows_of (found_of c.args.found.now)) in
+    let fault = err_from_is_err_and c.from_residual.result c.from_residual.ensures.1 in
+    rw (fault.1, fault.2) (usage_weaker _ none c.in_err-file.ensures.err)

@@ -1,0 +1,4 @@
+pub mod Places
+pub mod Sentences
+pub mod Lines
+pub mod Drawing
