@@ -13,7 +13,7 @@ import tempfile
 
 ROOT = pathlib.Path(__file__).resolve().parent.parent
 FOLDER = ROOT / "completions"
-SUBCOMMANDS = ["causes", "check", "diff", "explain", "import", "never", "reach", "show", "sim", "uses"]
+SUBCOMMANDS = ["causes", "check", "diff", "draw", "explain", "import", "never", "reach", "show", "sim", "uses"]
 CIRCUIT = ROOT / "examples/emergency_stop/machine.ld"
 TIMERS = ROOT / "examples/star_delta/star_delta.ld"
 BISTABLE = ROOT / "examples/tank_two_pumps/tank.ld"

@@ -77,12 +77,17 @@ def rungs(count):
     return "|\n\n" * int(count)
 
 
+def assignments(count):
+    """A number of assignments, each of another expression than the one before it."""
+    return "".join(f"Y := {'AB'[number % 2]};\n" for number in range(int(count)))
+
+
 def line(words):
     """These words as they stand."""
     return f"{words}\n"
 
 
-MAKERS = (spaces, filled_motor, inputs, variables, timers, rungs, line)
+MAKERS = (spaces, filled_motor, inputs, variables, timers, rungs, assignments, line)
 GENERATORS = {maker.__name__: maker for maker in MAKERS}
 
 
