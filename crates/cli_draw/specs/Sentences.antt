@@ -42,7 +42,7 @@ keyword mark.Not = codes "NOT"
 keyword mark.And = codes "AND"
 keyword mark.Or = codes "OR"
 keyword mark.Exclusive = codes "XOR"
-keyword other = codes "another word"
+keyword _ = codes "another word"
 
 -- a symbol or a keyword
 abbrev pub mark_word : Mark → List ℕ
@@ -55,7 +55,7 @@ mark_word mark.Open = codes "("
 mark_word mark.Close = codes ")"
 mark_word mark.Equal = codes "="
 mark_word mark.Unequal = codes "<>"
-mark_word other = keyword other
+mark_word word = keyword word
 
 -- what is due, in words
 abbrev pub expected_words : Expected → List ℕ
