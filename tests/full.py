@@ -21,6 +21,8 @@ TEXTS = {
     "motor.ld": (HERE / "programs" / "motor.ld").read_bytes(),
     "either.ld": (HERE / "programs" / "motor.ld").read_bytes().replace(b"|/|", b"| |"),
     "rhythm.ld": (HERE / "programs" / "rhythm.ld").read_bytes(),
+    "motor.st": (HERE / "texts" / "motor.st").read_bytes(),
+    "wrong.st": (HERE / "texts" / "motor.st").read_bytes().replace(b"NOT Stop", b"NOT Halt"),
     "running.csv": b"version,2\nmoment,10\nvar,Start,0\nvar,Stop,0\nvar,Motor,1\n",
     "stimulus.csv": b"moment,Start,Stop\n0,1,0\n10,0,0\n",
     "back.csv": b"moment,Start,Stop\n0,1,0\n10,0,0\n5,0,0\n",
@@ -30,6 +32,8 @@ LIST = ("--state", "running.csv", "motor.ld", "Motor", "Start", "Stop")
 REQUESTS = (
     (("check", "motor.ld"), 0),
     (("uses", "motor.ld"), 0),
+    (("draw", "motor.st"), 0),
+    (("draw", "--why", "wrong.st"), 1),
     (("causes", *LIST), 0),
     (("causes", "--after", "0", *LIST), 0),
     (("causes", "--scans", "3", *LIST), 0),
