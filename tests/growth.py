@@ -26,6 +26,7 @@ TEXTS = {
     "counter.ld": (HERE / "programs" / "counter.ld").read_bytes(),
     "rhythm.ld": (HERE / "programs" / "rhythm.ld").read_bytes(),
     "lamp.clp": (HERE / "projects" / "lamp.clp").read_bytes(),
+    "motor.st": (HERE / "texts" / "motor.st").read_bytes(),
     "running.csv": b"version,2\nmoment,0\nvar,Start,1\nvar,Stop,0\nvar,Motor,1\n",
     "back.csv": b"moment,Start,Stop\n0,1,0\n10,0,0\n5,0,0\n",
     "count.csv": b"moment,Count\n0,1\n5,0\n",
@@ -74,6 +75,7 @@ REQUESTS = (
     (("reach", "rhythm.ld", "Y"), ("fault V9\n", "fault X7\n")),
     (("reach", "--every", "100", "rhythm.ld", "Y"), ("fault V9\n", "fault X7\n")),
     (("import", "lamp.clp"), ("fault X7\n",)),
+    (("draw", "motor.st"), ("fault X7\n",)),
     (("--help",), ("fault X7\n",)),
 )
 Ending = collections.namedtuple("Ending", "out err status saved")

@@ -18,9 +18,13 @@ pub record Draws (text : List ℕ) (Written : List ℕ → Type 0) : Type 0 wher
   pub written : Written bytes
 
 -- What is said of a fault was written, or a prefix of it before the writer failed.
+abbrev pub IsSaid : Bool → List ℕ → DrawFault → WriteLog → WriteLog → Type 0
+IsSaid why text f old new = PutsAll old new (fault_text why text f) ⊎ PutsPrefix old new (fault_text why text f)
+
+-- So it was of some fault.
 pub record Says (why : Bool) (text : List ℕ) (old new : WriteLog) : Type 0 where
   pub reason : DrawFault
-  pub written : PutsAll old new (fault_text why text reason) ⊎ PutsPrefix old new (fault_text why text reason)
+  pub said : IsSaid why text reason old new
 
 -- Status 1: there is no drawing, and nothing is on `out`; or `out` failed.
 abbrev pub BreaksDrawing : Bool → List ℕ → WriteLog → WriteLog → WriteLog → WriteLog → Type 0

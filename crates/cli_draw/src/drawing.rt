@@ -2,7 +2,7 @@
 
 ghost use Rattle.std.specs.Prelude.{◌≡◌, ◌≤◌};
 ghost use Rattle.io_text.specs.Log.{PutsAll};
-ghost use Rattle.cli_draw.specs.Drawing.{BreaksDrawing, Draws, Says};
+ghost use Rattle.cli_draw.specs.Drawing.{BreaksDrawing, Draws, IsSaid};
 
 use crate::lines::write_fault;
 use cli_inputs::{ToolFault, report_unread};
@@ -13,7 +13,7 @@ use std::alloc::Global;
 /// Writes the report of a fault, as far as the writer takes it. Returns the status 1.
 fn told<E: Sink>(why: bool, text: &[u8], fault: DrawFault, err: &mut E) -> u8
     ensures status { result ≡ 1 }
-    ensures said { Says why text.now (E.log err.old) (E.log err.new) }
+    ensures said { IsSaid why text.now fault (E.log err.old) (E.log err.new) }
 {
     match write_fault(why, text, fault, err) {
         Ok(()) => 1,

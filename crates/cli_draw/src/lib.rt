@@ -3,6 +3,7 @@
 
 mod drawing;
 mod lines;
+mod near;
 mod place;
 mod sentences;
 

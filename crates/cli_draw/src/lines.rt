@@ -1,11 +1,13 @@
 //! What is said of a text that isn't drawn.
 
-ghost use Rattle.std.specs.Prelude.{◌≡◌};
+ghost use Rattle.std.specs.Prelude.{◌≡◌, ◌++◌};
 ghost use Rattle.io_text.specs.Buffer.{Sends};
 ghost use Rattle.io_text.specs.Log.{Puts};
 ghost use Rattle.cli_inputs.specs.FaultLine.{numbered};
-ghost use Rattle.cli_draw.specs.Lines.{explanation, fault_line, fault_text, gap, lined, refusal_line, text_line, worded};
+ghost use Rattle.cli_draw.specs.Lines.{explanation, fault_line, fault_near, fault_text, gap, lined, refusal_line, text_line, worded};
+ghost use Rattle.cli_draw.specs.Sentences.{sentence};
 
+use crate::near::add_fault_near;
 use crate::place::{line_number, word_at};
 use crate::sentences::add_sentence;
 use draw_program::DrawFault;
@@ -88,6 +90,7 @@ fn add_refusal_line<W: Sink>(
         Refusal::Name { at } => add_worded(buffer, b"fault T3 line ", text, at, writer),
         Refusal::Type { at } => add_worded(buffer, b"fault T4 line ", text, at, writer),
         Refusal::Undrawable { at } => add_worded(buffer, b"fault T5 line ", text, at, writer),
+        Refusal::Integer { at } => add_worded(buffer, b"fault T5 line ", text, at, writer),
         Refusal::Member { at } => add_worded(buffer, b"fault T6 line ", text, at, writer),
         Refusal::Input { at } => add_worded(buffer, b"fault T7 line ", text, at, writer),
         Refusal::Call { at } => add_worded(buffer, b"fault T8 line ", text, at, writer),
@@ -124,6 +127,9 @@ fn add_line<W: Sink>(
     match fault {
         DrawFault::Memory => buffer.add(b"fault X7\n", writer),
         DrawFault::Text(fault) => add_text_line(buffer, text, fault, writer),
+        DrawFault::AlikeNames { at } => {
+            add_worded(buffer, b"fault T3 line ", text, Some(at), writer)
+        }
         DrawFault::TooManyRungs(count) => {
             add_numbered(buffer, b"fault T9 rungs ", count, writer)
         }
@@ -137,23 +143,37 @@ fn add_line<W: Sink>(
     }
 }
 
-/// Adds the sentence on a text that isn't drawn, where it is asked for.
-fn add_explanation<W: Sink>(
+/// Adds the sentence on a text that isn't drawn, and the lines near the place.
+fn add_reason<W: Sink>(
     buffer: &mut TextBuffer,
-    why: bool,
+    text: &[u8],
     fault: DrawFault,
     writer: &mut W,
 ) -> Result<(), WriteFault>
-    ensures { Sends (W.log writer.old) (W.log writer.new) buffer.old buffer.new result (explanation why fault) }
+    ensures { Sends (W.log writer.old) (W.log writer.new) buffer.old buffer.new result (sentence fault ++ fault_near text.now fault) }
+{
+    add_sentence(buffer, fault, writer)?;
+    add_fault_near(buffer, text, fault, writer)
+}
+
+/// Adds why a text isn't drawn, where that is asked for.
+fn add_explanation<W: Sink>(
+    buffer: &mut TextBuffer,
+    why: bool,
+    text: &[u8],
+    fault: DrawFault,
+    writer: &mut W,
+) -> Result<(), WriteFault>
+    ensures { Sends (W.log writer.old) (W.log writer.new) buffer.old buffer.new result (explanation why text.now fault) }
 {
     if why {
-        add_sentence(buffer, fault, writer)
+        add_reason(buffer, text, fault, writer)
     } else {
         Ok(())
     }
 }
 
-/// Adds the line on a text that isn't drawn, and the sentence where it is asked for.
+/// Adds the line on a text that isn't drawn, and why it isn't where that is asked for.
 fn add_fault<W: Sink>(
     buffer: &mut TextBuffer,
     why: bool,
@@ -164,10 +184,10 @@ fn add_fault<W: Sink>(
     ensures { Sends (W.log writer.old) (W.log writer.new) buffer.old buffer.new result (fault_text why text.now fault) }
 {
     add_line(buffer, text, fault, writer)?;
-    add_explanation(buffer, why, fault, writer)
+    add_explanation(buffer, why, text, fault, writer)
 }
 
-/// Writes what is said of a text that isn't drawn: a line, and a sentence where it is asked for.
+/// Writes what is said of a text that isn't drawn: a line, and why it isn't where that is asked for.
 pub(crate) fn write_fault<W: Sink>(
     why: bool,
     text: &[u8],

@@ -1,9 +1,14 @@
-//! Places of a text: the line, and the word that begins there.
+//! Places of a text: the line, the column, and the word that begins there.
 
-ghost use Rattle.std.specs.Prelude.{◌≡◌, ◌≤◌, length};
+ghost use Rattle.std.specs.Prelude.{◌≡◌, ◌≤◌, IfSome, length};
 ghost use Rattle.std.specs.List.{prefix_len};
 ghost use Rattle.st_words.specs.Words.{is_word_byte};
-ghost use Rattle.cli_draw.specs.Places.{before, first_word, from, is_control, line_number, word_at};
+ghost use Rattle.text_reasons.specs.Bytes.{goes_on};
+ghost use Rattle.text_reasons.specs.Reasons.{MayStand};
+ghost use Rattle.cli_draw.specs.Places.{before, column, first_word, from, is_control, line_number, marks_at, word_at};
+
+use diagram_program::geometry::CELL;
+use text_reasons::{Marks, WIDEST};
 
 /// How many bytes of a word are shown at most.
 const LONGEST: usize = 32;
@@ -34,6 +39,25 @@ pub(crate) fn line_number(text: &[u8], at: Option<usize>) -> usize
 {
     let lines = before(text, at);
     1 + lines.iter().filter(|b| **b == b'\n').count()
+}
+
+/// Whether a byte goes on with a character of UTF-8.
+fn goes_on(b: u8) -> bool
+    ensures { result ≡ goes_on b }
+{
+    128 <= b && b <= 191
+}
+
+/// How many characters of its line are before a place.
+fn column(text: &[u8], at: Option<usize>) -> usize
+    ensures { result ≡ column text.now at }
+{
+    before(text, at)
+        .iter()
+        .rev()
+        .take_while(|b| **b != b'\n')
+        .filter(|b| !goes_on(**b))
+        .count()
 }
 
 /// Whether a byte is one of a name, a number, an address or a duration.
@@ -76,4 +100,20 @@ pub(crate) fn word_at(text: &[u8], at: Option<usize>) -> &[u8]
     ensures { result.now ≡ word_at text.now at }
 {
     first_word(from(text, at))
+}
+
+/// The marks under the word at a place, or one where there is no word; none beyond the width of a drawing.
+pub(crate) fn marks_at(text: &[u8], at: Option<usize>) -> Option<Marks>
+    ensures value { result ≡ marks_at text.now at }
+    ensures stand { IfSome result MayStand }
+{
+    let indent = column(text, at);
+    if indent <= WIDEST {
+        Some(Marks {
+            indent,
+            count: word_at(text, at).len().min(CELL).max(1),
+        })
+    } else {
+        None
+    }
 }

@@ -53,7 +53,7 @@ VAR
 pub(crate) const T3: &str = "\
 T3: a name that isn't declared, or is declared twice
 
-Each name is declared once, between `VAR` and `END_VAR`. The case of letters makes no difference. The name of a block alone isn't a value: `Lag.Q` is.
+Each name is declared once, between `VAR` and `END_VAR`. The case of letters makes no difference.
 
 ```console
 $ sed 's/OR Hand/OR Hands/' pump.st > misspelled.st
@@ -72,12 +72,12 @@ VAR
 pub(crate) const T4: &str = "\
 T4: a type that a drawing can't have
 
-A variable is a `BOOL`. A block is a `TON`, `TOF`, `TP`, `CTU`, `CTD`, `SR`, `RS`, `R_TRIG` or `F_TRIG`.
+A variable is a `BOOL`, or in `VAR` an `INT` without an address. A block is a `TON`, `TOF`, `TP`, `CTU`, `CTD`, `SR`, `RS`, `R_TRIG` or `F_TRIG`.
 
 ```console
-$ sed 's/: TON/: INT/' pump.st > number.st
+$ sed 's/: TON/: REAL/' pump.st > number.st
 $ ladder draw number.st
-fault T4 line 7 INT
+fault T4 line 7 REAL
 ```
 
 Corrected:
@@ -91,7 +91,7 @@ VAR
 pub(crate) const T5: &str = "\
 T5: a statement or an operator that can't be drawn
 
-A drawing has no numbers and no loops: no `FOR`, `WHILE`, `REPEAT`, `CASE` or `EXIT`, no arithmetic, and no comparison but `=` and `<>` between BOOL values.
+A drawing has no loops and no arithmetic: no `FOR`, `WHILE`, `REPEAT` or `EXIT`, no `+` and no `>`. `=` and `<>` compare BOOL values, or an `INT` with a number. An `INT` is set to a number, compared with one or chosen by `CASE`; behind `NOT` such a comparison stands in parentheses.
 
 ```console
 $ sed 's/^Pump := .*/WHILE Level DO/' pump.st > loop.st
@@ -110,7 +110,7 @@ VAR
 pub(crate) const T6: &str = "\
 T6: what a drawing can't read or write of a block
 
-Of a block a program reads the output `Q`, of a bistable `Q1`. It gives the inputs and the preset that the block has, each once: `ET` and `CV` can't be read.
+Of a block a program reads the output `Q`, of a bistable `Q1`: the name of a block alone isn't a value. It gives the inputs and the preset that the block has, each once: `ET` and `CV` can't be read.
 
 ```console
 $ sed 's/Lag.Q/Lag.ET/' pump.st > elapsed.st

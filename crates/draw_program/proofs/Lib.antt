@@ -1,2 +1,3 @@
+mod Ones
 mod Sizes
 mod Titles

@@ -1,5 +1,5 @@
 -- What a drawing declares of a program in Structured Text.
-use Rattle.std.specs.Prelude.{◌≡◌, ℕ, Bool, true, not, ◌&&◌, is_none, List, [], ◌∷◌, take, Option, Some, None}
+use Rattle.std.specs.Prelude.{◌≡◌, ℕ, Bool, true, not, ◌&&◌, is_none, List, [], ◌∷◌, ◌++◌, codes, decimal, take, Option, Some, None}
 use Rattle.std.specs.List.{list_all}
 use Rattle.diagram_declarations.specs.declared.title.TheConstants.{LONGEST_TITLE}
 use Rattle.diagram_declarations.specs.declared.decls.Address.{Address}
@@ -12,10 +12,11 @@ use Rattle.st_words.specs.declared.word.Word.{Word}
 use Rattle.st_words.specs.Places.{spelled}
 use Rattle.st_program.specs.declared.symbols.Section.{Section}
 use Rattle.st_program.specs.declared.symbols.Section.TheVariants.{Local, Input, Output}
+use Rattle.st_program.specs.declared.symbols.Sort.TheVariants.{Value}
 use Rattle.st_program.specs.declared.symbols.StVariable.{StVariable}
 use Rattle.st_program.specs.declared.program.StInstance.{StInstance}
 
--- What lists call it: its name in the text, or as much of it as an alias can have.
+-- What lists call it: a word, or as much of it as an alias can have.
 abbrev pub shown_of : List ℕ → List ℕ
 shown_of word = take LONGEST_TITLE word
 
@@ -34,8 +35,12 @@ abbrev pub IsPlaced : List ℕ → Section → Option Word → Var → Type 0
 IsPlaced text section (Some word) v = IsAt (spelled text word) v
 IsPlaced text section None v = IsOfSection section v
 
+-- What a variable is called: its name in the text, or where it stands for a value of an INT that name, an underscore and the value.
+abbrev pub called : List ℕ → StVariable → List ℕ
+called text x = elim x.sort [ Value of ↦ spelled text x.name ++ (codes "_" ++ decimal of.value) | _ ↦ spelled text x.name ]
+
 pub record IsVariable (text : List ℕ) (x : StVariable) (v : Var) : Type 0 where
-  pub title : v.title ≡ shown_of (spelled text x.name)
+  pub title : v.title ≡ shown_of (called text x)
   pub initial : v.initial ≡ x.initial
   pub placed : IsPlaced text x.section x.address v
 

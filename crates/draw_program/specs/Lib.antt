@@ -1,3 +1,4 @@
 pub mod Addresses
 pub mod Declarations
 pub mod Drawn
+pub mod Integers

@@ -120,8 +120,11 @@ fn add_variable(
     variable: StVariable,
     free: &mut FreeNumbers,
 ) -> Result<(), AllocError> {
-    if let Some(name) = declaring.names.variables.get(number) {
-        add_name(out, name.bytes(), bytes_of(declaring.text, variable.name))?;
+    if let (Some(name), Some(word)) = (
+        declaring.names.variables.get(number),
+        declaring.names.words.get(number),
+    ) {
+        add_name(out, name.bytes(), word)?;
     }
     add_place(out, declaring, variable, free)?;
     add(out, b" : BOOL")?;
@@ -222,7 +225,8 @@ pub(crate) fn add_declarations(
     for (number, variable) in declaring.program.variables.iter().enumerate() {
         add_instances(out, declaring, from, variable.name.start)?;
         add_variable(out, declaring, number, *variable, &mut free)?;
-        from = variable.name.start;
+        // A value of an INT has the place of its INT, behind which other names may stand that are declared already.
+        from = variable.name.start.max(from);
     }
     add_instances(out, declaring, from, usize::MAX)?;
     add_helpers(out, declaring)?;

@@ -1,17 +1,22 @@
 //! A program in Structured Text, read, laid out, and compared with what was laid out.
 
-ghost use Rattle.std.specs.Prelude.{◌≡◌, IfOk, IsTrue};
+ghost use Rattle.std.specs.Prelude.{◌≡◌, IfOk, IfSome, IsTrue};
+ghost use Rattle.diagram_reader.specs.Titled.{IsTitledProgram};
 ghost use Rattle.st_program.specs.Programs.{IsStProgram};
 ghost use Rattle.draw_program.specs.Drawn.{IsDrawn};
 
+use crate::alike::alike_name;
 use crate::assembling::assembled;
 use crate::fault::DrawFault;
+use crate::integers::keeps_integers;
 use crate::matching::are_declared;
 use crate::names::{DrawnNames, drawn_names};
 use crate::notes::comments_of;
+use diagram_declarations::VarRule;
 use diagram_declarations::limits::{MOST_INSTANCES, MOST_VARS};
+use diagram_program::Program;
 use diagram_program::geometry::RUNGS;
-use diagram_reader::read_titled_program;
+use diagram_reader::{GridFault, TitledFault, read_titled_program};
 use draw_check::{Plan, is_drawing};
 use draw_layout::{Comment, Layout, Names, lay_out};
 use st_expression::Expression;
@@ -67,6 +72,19 @@ fn check_size(program: &StProgram, layout: &Layout<'_>) -> Result<(), DrawFault>
     Ok(())
 }
 
+/// The program that the bytes of a drawing are, read again; None where they are none.
+fn read_again(alloc: Global, bytes: &[u8]) -> Result<Option<Program>, AllocError>
+    ensures { IfOk result (λ found. IfSome found (IsTitledProgram bytes.now)) }
+{
+    match read_titled_program(alloc, bytes) {
+        Ok(read) => Ok(Some(read)),
+        Err(TitledFault::Grid(GridFault::Vars(fault))) if fault.rule == VarRule::Memory => {
+            Err(AllocError)
+        }
+        Err(_) => Ok(None),
+    }
+}
+
 /// Whether the bytes are a drawing of a program, as these parts say of its helpers.
 fn is_drawn(
     alloc: Global,
@@ -77,7 +95,7 @@ fn is_drawn(
 ) -> Result<bool, AllocError>
     ensures { IfOk result (λ is. IsTrue is → IsDrawn text.now program.now bytes.now) }
 {
-    let Ok(read) = read_titled_program(alloc, bytes) else {
+    let Some(read) = read_again(alloc, bytes)? else {
         return Ok(false);
     };
     let variables = program.variables.as_slice();
@@ -86,11 +104,13 @@ fn is_drawn(
         variables: variables.len(),
         parts,
     };
-    if !are_declared(text, variables, &program.instances, read.decls()) {
+    if !are_declared(alloc, text, variables, &program.instances, read.decls())? {
         return Ok(false);
     }
-    let does = is_drawing(alloc, plan, &program.statements)?;
-    Ok(does)
+    if !is_drawing(alloc, plan, &program.statements)? {
+        return Ok(false);
+    }
+    keeps_integers(alloc, program, &read)
 }
 
 /// The text of a drawing of a program; None where it is found to be something else.
@@ -100,6 +120,9 @@ fn drawing_of(alloc: Global, text: &[u8], program: &StProgram) -> Result<Vec<u8>
     let Some(names) = drawn_names(alloc, text, program)? else {
         return Err(DrawFault::NotFaithful);
     };
+    if let Some(at) = alike_name(text, program, &names.words) {
+        return Err(DrawFault::AlikeNames { at });
+    }
     let layout = laid_out(alloc, text, program, &names)?;
     check_size(program, &layout)?;
     let bytes = assembled(alloc, text, program, &names, &layout)?;

@@ -15,6 +15,9 @@ pub enum DrawFault {
     /// The text is no program in Structured Text.
     #[error("{0}")]
     Text(StFault),
+    /// In a drawing two names would be one; the later one begins at this place.
+    #[error("in a drawing two names would be one")]
+    AlikeNames { at: usize },
     /// The drawing would have more rungs than a program can have: this many.
     #[error("{0} rungs: a program has at most 100")]
     TooManyRungs(usize),

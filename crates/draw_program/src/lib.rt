@@ -2,10 +2,13 @@
 #![tactic(auto)]
 
 mod address;
+mod alike;
 mod assembling;
+mod calling;
 mod declaring;
 mod drawing;
 mod fault;
+mod integers;
 mod matching;
 mod names;
 mod notes;

@@ -1,14 +1,16 @@
 //! Whether a drawing declares what a program declares.
 
-ghost use Rattle.std.specs.Prelude.{◌≡◌, IsTrue};
+ghost use Rattle.std.specs.Prelude.{◌≡◌, IfOk, IsTrue};
 ghost use Rattle.std.specs.List.{list_all};
 ghost use Rattle.st_words.specs.declared.word.Word.{Word};
 ghost use Rattle.draw_program.specs.Declarations.{AreDeclared, AreInstances, AreVariables, IsAt, IsInstance, IsOfSection, IsPlaced, IsVariable, is_helper, shown_of};
 
 use crate::address::address_of;
+use crate::calling::full_name;
 use diagram_declarations::{Address, Decls, Instance, LONGEST_TITLE, Var, VarKind};
 use st_program::{Section, StInstance, StVariable, bytes_of};
 use st_words::Word;
+use std::alloc::{AllocError, Global};
 
 /// What lists call a variable or an instance: the word of the text, or its start where it is longer than an alias can be.
 #[tactic(auto, using(crate::proofs::Titles::whole_word))]
@@ -90,12 +92,15 @@ fn is_placed(text: &[u8], section: Section, address: Option<Word>, v: &Var) -> b
 }
 
 /// Whether a variable is that of the text.
-fn is_variable(text: &[u8], x: StVariable, v: &Var) -> bool
-    ensures { IsTrue result → IsVariable text.now x v.now }
+fn is_variable(alloc: Global, text: &[u8], x: StVariable, v: &Var) -> Result<bool, AllocError>
+    ensures { IfOk result (λ is. IsTrue is → IsVariable text.now x v.now) }
 {
-    v.title.bytes() == shown_of(bytes_of(text, x.name))
-        && v.initial == x.initial
-        && is_placed(text, x.section, x.address, v)
+    let name = full_name(alloc, text, x)?;
+    Ok(
+        v.title.bytes() == shown_of(&name)
+            && v.initial == x.initial
+            && is_placed(text, x.section, x.address, v),
+    )
 }
 
 /// Whether a variable is as helpers are: no input, without an address, OFF at the start.
@@ -113,15 +118,22 @@ fn are_helpers(vs: &[Var]) -> bool
 }
 
 /// Whether variables are those of the text, and then helpers.
-fn are_variables(text: &[u8], xs: &[StVariable], vs: &[Var]) -> bool
-    ensures { IsTrue result → AreVariables text.now xs.now vs.now }
+fn are_variables(
+    alloc: Global,
+    text: &[u8],
+    xs: &[StVariable],
+    vs: &[Var],
+) -> Result<bool, AllocError>
+    ensures { IfOk result (λ are. IsTrue are → AreVariables text.now xs.now vs.now) }
 {
     match (xs, vs) {
-        ([], _) => are_helpers(vs),
+        ([], _) => Ok(are_helpers(vs)),
         ([x, more @ ..], [v, others @ ..]) => {
-            is_variable(text, *x, v) && are_variables(text, more, others)
+            let is_first = is_variable(alloc, text, *x, v)?;
+            let are_others = are_variables(alloc, text, more, others)?;
+            Ok(is_first && are_others)
         }
-        _ => false,
+        _ => Ok(false),
     }
 }
 
@@ -147,13 +159,14 @@ fn are_instances(text: &[u8], xs: &[StInstance], is: &[Instance]) -> bool
 
 /// Whether a drawing declares these variables and instances, and helpers besides.
 pub(crate) fn are_declared(
+    alloc: Global,
     text: &[u8],
     variables: &[StVariable],
     instances: &[StInstance],
     decls: &Decls,
-) -> bool
-    ensures { IsTrue result → AreDeclared text.now variables.now instances.now decls.now }
+) -> Result<bool, AllocError>
+    ensures { IfOk result (λ are. IsTrue are → AreDeclared text.now variables.now instances.now decls.now) }
 {
-    are_variables(text, variables, decls.vars())
-        && are_instances(text, instances, decls.instances())
+    let are = are_variables(alloc, text, variables, decls.vars())?;
+    Ok(are && are_instances(text, instances, decls.instances()))
 }

@@ -1,10 +1,11 @@
 //! The names that a program is drawn with.
 
+use crate::calling::full_names;
 use crate::numbered::ShortWord;
 use diagram_declarations::Name;
 use diagram_declarations::limits::LONGEST_NAME;
 use draw_layout::NamedInstance;
-use st_program::{StProgram, bytes_of};
+use st_program::{Sort, StProgram, bytes_of};
 use std::alloc::{AllocError, Global};
 
 /// The most names that begin alike and are told apart by a number.
@@ -16,34 +17,49 @@ const HELPERS: [&[u8]; 4] = [b"h", b"h_", b"Helper", b"Part_"];
 /// The names of the variables and instances of a program, and what those of its helpers begin with.
 #[derive(Drop)]
 pub(crate) struct DrawnNames {
+    /// What the variables are called, in full.
+    pub words: Vec<Vec<u8>>,
     pub variables: Vec<Name>,
     pub instances: Vec<NamedInstance>,
     pub helper: &'static [u8],
 }
 
-/// A word of the text that is to be a name, and how long that may be.
+/// A word that is to be a name, and how long that may be.
 #[derive(Clone, Copy)]
 struct Wanted<'t> {
     word: &'t [u8],
+    /// The value of an INT that it ends with, behind an underscore.
+    value: Option<u32>,
     longest: usize,
 }
 
-/// What the variables and then the instances are called in the text.
+/// The value of an INT that a variable stands for.
+fn value_of(sort: Sort) -> Option<u32> {
+    match sort {
+        Sort::Value(of) => Some(of.value),
+        _ => None,
+    }
+}
+
+/// What the variables and then the instances are called.
 fn words_of<'t>(
     alloc: Global,
     text: &'t [u8],
+    words: &'t [Vec<u8>],
     program: &StProgram,
 ) -> Result<Vec<Wanted<'t>>, AllocError> {
     let mut wanted = Vec::new(alloc);
-    for variable in &program.variables {
+    for (word, variable) in words.iter().zip(&program.variables) {
         wanted.push(Wanted {
-            word: bytes_of(text, variable.name),
+            word,
+            value: value_of(variable.sort),
             longest: LONGEST_NAME,
         })?;
     }
     for instance in &program.instances {
         wanted.push(Wanted {
             word: bytes_of(text, instance.name),
+            value: None,
             longest: instance.kind.traits().longest_name,
         })?;
     }
@@ -58,9 +74,17 @@ fn is_taken(names: &[Option<Name>], name: &Name) -> bool {
     })
 }
 
+/// The start of a word, or where it ends with a value that behind as much as there is room for.
+fn short_word(wanted: Wanted<'_>) -> ShortWord {
+    match wanted.value {
+        Some(value) => ShortWord::numbered(wanted.word, b"_", value as usize, wanted.longest),
+        None => ShortWord::cut(wanted.word, wanted.longest),
+    }
+}
+
 /// The start of a word as a name, with a number behind it where another one is called so.
 fn free_name(names: &[Option<Name>], wanted: Wanted<'_>) -> Option<Name> {
-    if let Some(name) = Name::new(ShortWord::cut(wanted.word, wanted.longest).bytes()) {
+    if let Some(name) = Name::new(short_word(wanted).bytes()) {
         if !is_taken(names, &name) {
             return Some(name);
         }
@@ -120,14 +144,25 @@ fn helper_prefix(names: &[Option<Name>]) -> &'static [u8] {
     HELPERS[0]
 }
 
+/// A name for each variable, of these words, and for each instance.
+fn names_of(
+    alloc: Global,
+    text: &[u8],
+    words: &[Vec<u8>],
+    program: &StProgram,
+) -> Result<Vec<Option<Name>>, AllocError> {
+    let wanted = words_of(alloc, text, words, program)?;
+    chosen(alloc, &wanted)
+}
+
 /// The names of a program in its drawing; None where there are too many that begin alike.
 pub(crate) fn drawn_names(
     alloc: Global,
     text: &[u8],
     program: &StProgram,
 ) -> Result<Option<DrawnNames>, AllocError> {
-    let wanted = words_of(alloc, text, program)?;
-    let names = chosen(alloc, &wanted)?;
+    let words = full_names(alloc, text, &program.variables)?;
+    let names = names_of(alloc, text, &words, program)?;
     let mut variables = Vec::new(alloc);
     let mut instances = Vec::new(alloc);
     for (number, name) in names.iter().enumerate() {
@@ -145,6 +180,7 @@ pub(crate) fn drawn_names(
     }
     let helper = helper_prefix(&names);
     Ok(Some(DrawnNames {
+        words,
         variables,
         instances,
         helper,

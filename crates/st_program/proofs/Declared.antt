@@ -13,7 +13,7 @@ use Rattle.st_program.specs.declared.mark.Mark.{Mark}
 use Rattle.st_program.specs.declared.mark.Mark.TheVariants as mark
 use Rattle.st_program.specs.declared.symbols.Section.{Section}
 use Rattle.st_program.specs.declared.symbols.Declared.{Declared}
-use Rattle.st_program.specs.Declarations.{Names, last, more, Place, at, Preset, here, IsPreset, MayShare, Adds, nothing, name, Declaration, Declarations, next, Semicolon, Sections, section_then}
+use Rattle.st_program.specs.Declarations.{Names, last, more, Place, at, Preset, here, IsInteger, IsPreset, InitialNumber, numbered, MayShare, Adds, nothing, name, Declaration, Declarations, next, Semicolon, Sections, section_then}
 use Rattle.st_program.specs.Phrases.{Marked}
 use Rattle.st_program.specs.Symbols.{Table, IsFresh, added}
 use Rattle.st_program.specs.Marks.{section_of}
@@ -27,6 +27,11 @@ share_one (n ∷ m ∷ ns) (Some a) word is single = absurd (omega (arith, eqb-t
 pub placed : (text : List ℕ) (words behind rest : List Word) (word : Word) → Marked text mark.At words behind → behind ≡ word ∷ rest
     → begins_with 37 (spelled text word) ≡ true → Place text words rest (Some word)
 placed text words behind rest word marked first percent = at words rest word (subst (Marked text mark.At words) first marked) percent
+
+pub number_given : (text : List ℕ) (words behind rest : List Word) (number : Word) (n : ℕ) (bytes : List ℕ) → Marked text mark.Becomes words behind
+    → behind ≡ number ∷ rest → bytes ≡ spelled text number → IsInteger bytes n → InitialNumber text words rest n
+number_given text words behind rest number n bytes becomes first are is =
+    numbered words rest number n (subst (Marked text mark.Becomes words) first becomes) (subst (λ b. IsInteger b n) are is)
 
 abbrev pub Named : List ℕ → Parameter → (words rest : List Word) → Type 0
 Named text p words rest = (word : Word) × (words ≡ word ∷ rest) × (same_letters (spelled text word) (parameter_word p) ≡ true)

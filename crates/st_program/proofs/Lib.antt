@@ -5,3 +5,5 @@ mod Expressing
 mod Argued
 mod Simply
 mod Endings
+mod Chosen
+mod Valued

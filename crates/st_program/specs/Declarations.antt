@@ -14,6 +14,7 @@ use Rattle.st_words.specs.Places.{spelled}
 use Rattle.st_program.specs.declared.mark.Mark.{Mark}
 use Rattle.st_program.specs.declared.mark.Mark.TheVariants as mark
 use Rattle.st_program.specs.declared.symbols.Section.{Section}
+use Rattle.st_program.specs.declared.symbols.Section.TheVariants.{Local}
 use Rattle.st_program.specs.declared.symbols.Sort.TheVariants as sort
 use Rattle.st_program.specs.declared.symbols.Declared.{Declared}
 use Rattle.st_program.specs.declared.symbols.Declared.TheVariants as declared
@@ -52,10 +53,22 @@ pub data Preset (text : List ℕ) (kind : BlockKind) : (words rest : List Word) 
       → Marked text mark.Becomes before (word ∷ after) → IsPreset p (spelled text word) n → Marked text mark.Close after rest
       → Preset text kind words rest (Some n)
 
+-- a number that an INT can have
+abbrev pub IsInteger : List ℕ → ℕ → Type 0
+IsInteger = IsPreset parameter.Count
+
+-- `:=` and a number, or nothing, which stands for 0
+pub data InitialNumber (text : List ℕ) : (words rest : List Word) → ℕ → Type 0 where
+  zero_by_default : (words : List Word) → InitialNumber text words words 0
+  numbered : (words rest : List Word) (number : Word) (n : ℕ) → Marked text mark.Becomes words (number ∷ rest) → IsInteger (spelled text number) n
+      → InitialNumber text words rest n
+
 -- a type, and what it says of the names before it
 pub data Typed (text : List ℕ) (section : Section) : Option Word → (words rest : List Word) → Declared → Type 0 where
   bool : (address : Option Word) (words after rest : List Word) (on : Bool) → Marked text mark.Bool words after → Initial text after rest on
       → Typed text section address words rest (declared.Variable section address on sort.Bool)
+  integer : (words after rest : List Word) (n : ℕ) → section ≡ Local → Marked text mark.Int words after → InitialNumber text after rest n
+      → Typed text section None words rest (declared.Integer section n)
   rising : (words rest : List Word) → Marked text mark.RisingTrigger words rest
       → Typed text section None words rest (declared.Variable section None false sort.Rising)
   falling : (words rest : List Word) → Marked text mark.FallingTrigger words rest

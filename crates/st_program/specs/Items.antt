@@ -1,5 +1,5 @@
 -- What the words of statements are, with what their names stand for.
-use Rattle.std.specs.Prelude.{◌≡◌, ℕ, ◌+◌, Bool, true, false, ◌&&◌, ◌||◌, ◌==◌, List, [], ◌∷◌, Option, Some, None, codes, drop, take, position, slice_get, if◌then◌else◌}
+use Rattle.std.specs.Prelude.{◌≡◌, ℕ, ◌+◌, Bool, true, false, ◌&&◌, ◌||◌, ◌==◌, List, [], ◌∷◌, ◌++◌, Option, Some, None, codes, drop, take, position, slice_get, if◌then◌else◌}
 use Rattle.diagram_declarations.specs.declared.kind.BlockKind.{BlockKind}
 use Rattle.diagram_declarations.specs.declared.kind.Output.TheVariants as output
 use Rattle.diagram_declarations.specs.declared.kind.Parameter.TheVariants as parameter
@@ -12,6 +12,9 @@ use Rattle.st_expression.specs.declared.token.Token.{Token}
 use Rattle.st_expression.specs.declared.token.Token.TheVariants as token
 use Rattle.st_words.specs.declared.word.Word.{Word}
 use Rattle.st_words.specs.Places.{spelled}
+use Rattle.st_integers.specs.declared.value.IntegerValue.{IntegerValue}
+use Rattle.st_integers.specs.Values.{variable_with}
+use Rattle.st_program.specs.declared.formal.Formal.TheVariants as formal
 use Rattle.st_program.specs.declared.item.Item.{Item}
 use Rattle.st_program.specs.declared.item.Literal.{Literal}
 use Rattle.st_program.specs.declared.item.Literal.TheVariants as literal
@@ -23,10 +26,10 @@ use Rattle.st_program.specs.declared.symbols.Section.TheVariants as section
 use Rattle.st_program.specs.declared.symbols.Sort.TheVariants as sort
 use Rattle.st_program.specs.declared.symbols.StVariable.{StVariable}
 use Rattle.st_program.specs.declared.symbols.Block.{Block}
-use Rattle.st_program.specs.Declarations.{IsPreset}
+use Rattle.st_program.specs.Declarations.{IsInteger, IsPreset}
 use Rattle.st_program.specs.Formals.{formal_of}
 use Rattle.st_program.specs.Marks.{mark_of}
-use Rattle.st_program.specs.Symbols.{Table, variable_of, block_of}
+use Rattle.st_program.specs.Symbols.{Table, variable_of, block_of, integer_values, value_of}
 
 -- `%I`: 73 and 105 are I and i
 abbrev pub is_input_address : List ℕ → Bool
@@ -43,7 +46,13 @@ is_input text v = elim v.section [ section.Input ↦ true | _ ↦ is_input_at te
 
 -- what a name stands for
 abbrev pub of_variable : (text : List ℕ) → StVariable → ℕ → Named
-of_variable text v number = elim v.sort [ sort.Bool ↦ named.Variable number (is_input text v) | sort.Rising ↦ named.Trigger number false | sort.Falling ↦ named.Trigger number true ]
+of_variable text v number =
+    elim v.sort [
+      | sort.Bool ↦ named.Variable number (is_input text v)
+      | sort.Rising ↦ named.Trigger number false
+      | sort.Falling ↦ named.Trigger number true
+      | sort.Value of ↦ named.Integer of.integer
+    ]
 
 abbrev pub of_variable_at : (text : List ℕ) → Option StVariable → ℕ → Named
 of_variable_at text (Some v) number = of_variable text v number
@@ -115,7 +124,90 @@ pub record IsItem (text : List ℕ) (t : Table) (w : Word) (item : Item) : Type 
   pub formal : item.formal ≡ formal_of (spelled text w)
   pub literal : IsLiteral (spelled text w) item.literal
 
-abbrev pub AreItems : (text : List ℕ) → Table → List Word → List Item → Type 0
-AreItems text t [] items = items ≡ []
-AreItems text t (word ∷ words) [] = ⊥
-AreItems text t (word ∷ words) (item ∷ items) = IsItem text t word item × AreItems text t words items
+-- ---- `step = 10` and `step <> 10`, with an INT on the left
+
+-- the variable that is ON while the INT has the number; FALSE where it never has it
+abbrev pub comparison_token : Option ℕ → Token
+comparison_token (Some number) = token.Operand (operand.Variable number)
+comparison_token None = token.Constant false
+
+abbrev pub compared : Word → Mark → Token → Item
+compared word sign is =
+    record {
+      word = word;
+      mark = sign;
+      token = is;
+      named = named.Compared;
+      formal = formal.Other;
+      literal = literal.Nothing;
+      is_member = false;
+      is_name = false;
+    }
+
+-- A comparison is an operand, behind NOT where it is one for being unequal.
+abbrev pub comparison : Word → (equal : Bool) → Option ℕ → List Item
+comparison word true number = compared word mark.Other (comparison_token number) ∷ []
+comparison word false number = compared word mark.Not token.Not ∷ compared word mark.Other (comparison_token number) ∷ []
+
+abbrev pub equality_of : Mark → Option Bool
+equality_of mark.Equal = Some true
+equality_of mark.Unequal = Some false
+equality_of _ = None
+
+-- NOT, `=` and `<>` bind as tight as a comparison or tighter: behind them one is in parentheses.
+abbrev pub is_loose : Mark → Bool
+is_loose mark.Not = false
+is_loose mark.Equal = false
+is_loose mark.Unequal = false
+is_loose _ = true
+
+-- the variables that stand for the values of INTs
+abbrev pub values_in : Table → List (Option IntegerValue)
+values_in t = integer_values t.variables
+
+-- The words begin with a comparison, and the rest is behind it: of a name, by a sign, with what this variable stands for.
+pub record IsCompared (text : List ℕ) (t : Table) (words rest : List Word) (name : Word) (equal : Bool) (number : Option ℕ) : Type 0 where
+  pub sign : Word
+  pub digits : Word
+  pub integer : ℕ
+  pub n : ℕ
+  pub whole : words ≡ name ∷ sign ∷ digits ∷ rest
+  pub is_integer : named_of text t (spelled text name) ≡ named.Integer integer
+  pub equality : equality_of (mark_of (spelled text sign)) ≡ Some equal
+  pub value : IsInteger (spelled text digits) n
+  pub stands : number ≡ variable_with (values_in t) integer n
+
+-- what the words are, one by one or as comparisons, where a comparison may stand at the start or may not
+pub data AreItems (text : List ℕ) (t : Table) : (may_compare : Bool) → List Word → List Item → Type 0 where
+  no_words : (may : Bool) → AreItems text t may [] []
+  word_then : (may : Bool) (word : Word) (words : List Word) (item : Item) (items : List Item) → IsItem text t word item
+      → AreItems text t (is_loose item.mark) words items → AreItems text t may (word ∷ words) (item ∷ items)
+  comparison_then : (words rest : List Word) (name : Word) (equal : Bool) (number : Option ℕ) (items : List Item)
+      → IsCompared text t words rest name equal number → AreItems text t true rest items
+      → AreItems text t true words (comparison name equal number ++ items)
+
+-- ---- the values of INTs
+
+-- the table with a variable more, for a value of the INT that this variable is declared as
+abbrev pub with_value : Table → StVariable → (integer n : ℕ) → Table
+with_value t v integer n = record t { variables = t.variables ++ record v { initial = false; sort = value_of integer n } ∷ [] }
+
+-- The words begin with an assignment of a number that the INT hasn't had yet; the INT is declared as this variable.
+pub record IsNewValue (text : List ℕ) (t : Table) (words : List Word) (v : StVariable) (integer n : ℕ) : Type 0 where
+  pub name : Word
+  pub sign : Word
+  pub digits : Word
+  pub rest : List Word
+  pub whole : words ≡ name ∷ sign ∷ digits ∷ rest
+  pub is_integer : named_of text t (spelled text name) ≡ named.Integer integer
+  pub becomes : mark_of (spelled text sign) ≡ mark.Becomes
+  pub value : IsInteger (spelled text digits) n
+  pub variable : slice_get t.variables integer ≡ Some v
+  pub is_new : variable_with (values_in t) integer n ≡ None
+
+-- What the table is with the values that the words assign to its INTs, as `step := 10`, each once.
+pub data AreValues (text : List ℕ) : List Word → (before after : Table) → Type 0 where
+  no_words_left : (t : Table) → AreValues text [] t t
+  value_then : (word : Word) (words : List Word) (t u : Table) (v : StVariable) (integer n : ℕ) → IsNewValue text t (word ∷ words) v integer n
+      → AreValues text words (with_value t v integer n) u → AreValues text (word ∷ words) t u
+  other_word : (word : Word) (words : List Word) (t u : Table) → AreValues text words t u → AreValues text (word ∷ words) t u

@@ -11,15 +11,16 @@ use Rattle.st_program.specs.declared.symbols.Section.TheVariants as section
 abbrev pub marks : List (List ℕ × Mark)
 marks =
     (codes "PROGRAM", mark.Program) ∷ (codes "END_PROGRAM", mark.EndProgram) ∷ (codes "VAR", mark.Var) ∷ (codes "VAR_INPUT", mark.VarInput) ∷
-    (codes "VAR_OUTPUT", mark.VarOutput) ∷ (codes "END_VAR", mark.EndVar) ∷ (codes "AT", mark.At) ∷ (codes "BOOL", mark.Bool) ∷
+    (codes "VAR_OUTPUT", mark.VarOutput) ∷ (codes "END_VAR", mark.EndVar) ∷ (codes "AT", mark.At) ∷ (codes "BOOL", mark.Bool) ∷ (codes "INT", mark.Int) ∷
     (codes "TON", mark.Ton) ∷ (codes "TOF", mark.Tof) ∷ (codes "TP", mark.Tp) ∷ (codes "CTU", mark.Ctu) ∷ (codes "CTD", mark.Ctd) ∷
     (codes "SR", mark.Sr) ∷ (codes "RS", mark.Rs) ∷ (codes "R_TRIG", mark.RisingTrigger) ∷ (codes "F_TRIG", mark.FallingTrigger) ∷
     (codes "TRUE", mark.On) ∷ (codes "FALSE", mark.Off) ∷ (codes "IF", mark.If) ∷ (codes "THEN", mark.Then) ∷ (codes "ELSIF", mark.Elsif) ∷
-    (codes "ELSE", mark.Else) ∷ (codes "END_IF", mark.EndIf) ∷ (codes "RETURN", mark.Return) ∷ (codes "NOT", mark.Not) ∷
+    (codes "ELSE", mark.Else) ∷ (codes "END_IF", mark.EndIf) ∷ (codes "CASE", mark.Case) ∷ (codes "OF", mark.Of) ∷
+    (codes "END_CASE", mark.EndCase) ∷ (codes "RETURN", mark.Return) ∷ (codes "NOT", mark.Not) ∷
     (codes "AND", mark.And) ∷ (codes "&", mark.And) ∷ (codes "OR", mark.Or) ∷ (codes "XOR", mark.Exclusive) ∷ (codes ":=", mark.Becomes) ∷
     (codes "=>", mark.Yields) ∷ (codes ":", mark.Colon) ∷ (codes ";", mark.Semicolon) ∷ (codes ",", mark.Comma) ∷ (codes "(", mark.Open) ∷
     (codes ")", mark.Close) ∷ (codes "=", mark.Equal) ∷ (codes "<>", mark.Unequal) ∷ (codes "FOR", mark.Undrawable) ∷
-    (codes "WHILE", mark.Undrawable) ∷ (codes "REPEAT", mark.Undrawable) ∷ (codes "CASE", mark.Undrawable) ∷
+    (codes "WHILE", mark.Undrawable) ∷ (codes "REPEAT", mark.Undrawable) ∷
     (codes "EXIT", mark.Undrawable) ∷ (codes "MOD", mark.Undrawable) ∷ (codes "+", mark.Undrawable) ∷ (codes "-", mark.Undrawable) ∷
     (codes "*", mark.Undrawable) ∷ (codes "/", mark.Undrawable) ∷ (codes "<", mark.Undrawable) ∷ (codes ">", mark.Undrawable) ∷
     (codes "<=", mark.Undrawable) ∷ (codes ">=", mark.Undrawable) ∷ (codes "[", mark.Undrawable) ∷ (codes "]", mark.Undrawable) ∷ []

@@ -1,5 +1,5 @@
 -- A text as a program.
-use Rattle.std.specs.Prelude.{◌≡◌, ℕ, ◌+◌, List, [], ◌∷◌, Option, map, unwrap_or, if◌then◌else◌}
+use Rattle.std.specs.Prelude.{◌≡◌, ℕ, ◌+◌, true, List, [], ◌∷◌, Option, map, unwrap_or, if◌then◌else◌}
 use Rattle.st_words.specs.declared.word.Word.{Word}
 use Rattle.st_words.specs.Places.{spelled, spellings}
 use Rattle.st_words.specs.Refusals.{RefusedAt}
@@ -15,7 +15,7 @@ use Rattle.st_program.specs.declared.program.StInstance.{StInstance}
 use Rattle.st_program.specs.declared.program.StProgram.{StProgram}
 use Rattle.st_program.specs.declared.symbols.Block.{Block}
 use Rattle.st_program.specs.Declarations.{Sections}
-use Rattle.st_program.specs.Items.{AreItems}
+use Rattle.st_program.specs.Items.{AreItems, AreValues, values_in}
 use Rattle.st_program.specs.Notes.{is_of_block}
 use Rattle.st_program.specs.Phrases.{Marked}
 use Rattle.st_program.specs.Statements.{Body, Has, Reads}
@@ -55,18 +55,21 @@ instances_from notes number (b ∷ blocks) =
 abbrev pub nothing_declared : Table
 nothing_declared = record { variables = []; blocks = [] }
 
--- The words are this program: the sections of declarations, then statements, with PROGRAM and END_PROGRAM about them or without.
+-- The words are this program: the sections of declarations, then statements, with PROGRAM and END_PROGRAM about them or without. Its variables
+-- are those that are declared, and behind them those of the values that are assigned to INTs.
 pub record IsProgram (text : List ℕ) (words : List Word) (p : StProgram) : Type 0 where
   pub behind : List Word
   pub body : List Word
+  pub declared : Table
   pub symbols : Table
   pub items : List Item
   pub rest : List Item
   pub notes : List Note
   pub heading : Heading text words behind
-  pub sections : Sections text behind body nothing_declared symbols
-  pub are_items : AreItems text symbols body items
-  pub reads : Reads Body items rest [] notes p.statements
+  pub sections : Sections text behind body nothing_declared declared
+  pub values : AreValues text body declared symbols
+  pub are_items : AreItems text symbols true body items
+  pub reads : Reads (values_in symbols) Body items rest [] notes p.statements
   pub ending : Ending rest
   pub variables : p.variables.items ≡ symbols.variables
   pub instances : p.instances.items ≡ instances_from notes 0 symbols.blocks

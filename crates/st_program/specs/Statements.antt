@@ -1,5 +1,5 @@
 -- Statements (IEC 61131-3:2013, Structured Text), as far as a ladder diagram can have what they say.
-use Rattle.std.specs.Prelude.{◌≡◌, ℕ, Bool, true, false, ◌==◌, List, ◌∷◌, ◌++◌, Option, Some, None, map, if◌then◌else◌}
+use Rattle.std.specs.Prelude.{◌≡◌, ℕ, zero, suc, count_by, Bool, true, false, ◌==◌, List, ◌∷◌, ◌++◌, Option, Some, None, map, if◌then◌else◌}
 use Rattle.diagram_declarations.specs.declared.kind.BlockKind.{BlockKind}
 use Rattle.diagram_declarations.specs.declared.kind.Parameter.{Parameter}
 use Rattle.diagram_declarations.specs.declared.kind.Parameter.TheVariants as parameter
@@ -11,6 +11,9 @@ use Rattle.st_expression.specs.declared.expression.Expression.TheVariants as tre
 use Rattle.st_expression.specs.Grammar.{Held, IsExpression, IsNot}
 use Rattle.st_statements.specs.declared.statement.StatementList.{StatementList}
 use Rattle.st_statements.specs.declared.statement.StatementList.TheVariants as list
+use Rattle.st_integers.specs.declared.value.IntegerValue.{IntegerValue}
+use Rattle.st_integers.specs.Settings.{IsSetting}
+use Rattle.st_integers.specs.Values.{is_of_integer, variable_with}
 use Rattle.st_program.specs.declared.arguments.Argument.{Argument}
 use Rattle.st_program.specs.declared.arguments.Argument.TheVariants as argument
 use Rattle.st_program.specs.declared.arguments.Copied.{Copied}
@@ -178,24 +181,94 @@ pub record Condition (sign : Mark) (items rest : List Item) (before after : List
   pub expressed : Expressed behind end e
   pub opens : Has mark.Then end rest
 
--- a list of statements, or what follows the statements behind THEN, up to END_IF
+-- ---- INTs
+
+abbrev pub AddsTimes : ℕ → Note → (before after : List Note) → Type 0
+AddsTimes zero note before after = after ≡ before
+AddsTimes (suc count) note before after = (between : List Note) × Adds before note between × AddsTimes count note between after
+
+-- The INT is set to a number that is one of its values: each of its variables is assigned, and noted.
+pub record IsSet (values : List (Option IntegerValue)) (items rest : List Item) (before after : List Note) (integer chosen : ℕ) : Type 0 where
+  pub item : Item
+  pub number : Item
+  pub behind : List Item
+  pub end : List Item
+  pub n : ℕ
+  pub whole : items ≡ item ∷ behind
+  pub is_integer : item.named ≡ named.Integer integer
+  pub becomes : Has mark.Becomes behind (number ∷ end)
+  pub value : number.literal ≡ literal.Count n
+  pub chooses : variable_with values integer n ≡ Some chosen
+  pub ends : Has mark.Semicolon end rest
+  pub adds : AddsTimes (count_by (is_of_integer integer) values) (nothing_called item) before after
+
+-- CASE, an INT and OF
+pub record Selector (items rest : List Item) (before after : List Note) (integer : ℕ) : Type 0 where
+  pub item : Item
+  pub name : Item
+  pub end : List Item
+  pub whole : items ≡ item ∷ name ∷ end
+  pub is : item.mark ≡ mark.Case
+  pub adds : Adds before (nothing_called item) after
+  pub is_integer : name.named ≡ named.Integer integer
+  pub ends : Has mark.Of end rest
+
+-- The INT has the number: the variable of that value, or FALSE where it never has it.
+abbrev pub equals : List (Option IntegerValue) → (integer n : ℕ) → Expression
+equals values integer n = elim (variable_with values integer n) [ Some number ↦ tree.Operand (operand.Variable number) | None ↦ tree.Constant false ]
+
+abbrev pub IsEither : (one other whole : Expression) → Type 0
+IsEither one other whole = (p q : Held) × (whole ≡ tree.Or' p one q other)
+
+-- numbers with commas between them and a colon behind: the INT has one of them
+pub data Numbers (values : List (Option IntegerValue)) (integer : ℕ) : (items rest : List Item) → Expression → Type 0 where
+  number : (item : Item) (behind rest : List Item) (n : ℕ) → item.literal ≡ literal.Count n → Has mark.Colon behind rest
+      → Numbers values integer (item ∷ behind) rest (equals values integer n)
+  number_then : (item : Item) (behind after rest : List Item) (n : ℕ) (others whole : Expression) → item.literal ≡ literal.Count n
+      → Has mark.Comma behind after → Numbers values integer after rest others → IsEither (equals values integer n) others whole
+      → Numbers values integer (item ∷ behind) rest whole
+
+-- the numbers before statements of a CASE but the first ones, noted
+pub record Labels (values : List (Option IntegerValue)) (integer : ℕ) (items rest : List Item) (before after : List Note) (e : Expression) : Type 0 where
+  pub item : Item
+  pub behind : List Item
+  pub whole : items ≡ item ∷ behind
+  pub adds : Adds before (nothing_called item) after
+  pub numbers : Numbers values integer items rest e
+
+-- a list of statements; what follows the statements behind THEN, up to END_IF; or what follows those behind the numbers of a CASE, up to END_CASE
 pub data Part : Type 0 where
   Body : Part
   Otherwise : Part
+  Choices : (integer : ℕ) → Part
 
-pub data Reads : Part → (items rest : List Item) → (before after : List Note) → StatementList → Type 0 where
-  nothing : (items : List Item) (notes : List Note) → Reads Body items items notes notes list.End
+pub data Reads (values : List (Option IntegerValue)) : Part → (items rest : List Item) → (before after : List Note) → StatementList → Type 0 where
+  nothing : (items : List Item) (notes : List Note) → Reads values Body items items notes notes list.End
   empty : (items behind rest : List Item) (before after : List Note) (all : StatementList) → Has mark.Semicolon items behind
-      → Reads Body behind rest before after all → Reads Body items rest before after all
+      → Reads values Body behind rest before after all → Reads values Body items rest before after all
   single : (items behind rest : List Item) (before between after : List Note) (s : Simple) (copy : Option Copied) (others copied all : StatementList)
-      → IsSimple items behind before between s copy → Reads Body behind rest between after others → WithCopy (source_of s) copy others copied
-      → WithSimple s copied all → Reads Body items rest before after all
+      → IsSimple items behind before between s copy → Reads values Body behind rest between after others → WithCopy (source_of s) copy others copied
+      → WithSimple s copied all → Reads values Body items rest before after all
   select : (items arm other end behind rest : List Item) (k l m n o : List Note) (e : Expression) (accepted otherwise others all : StatementList)
-      → Condition mark.If items arm k l e → Reads Body arm other l m accepted → Reads Otherwise other end m n otherwise → Has mark.Semicolon end behind
-      → Reads Body behind rest n o others → IsSelect e accepted otherwise others all → Reads Body items rest k o all
-  ended : (items rest : List Item) (notes : List Note) → Has mark.EndIf items rest → Reads Otherwise items rest notes notes list.End
-  others : (items arm end rest : List Item) (before after : List Note) (all : StatementList) → Has mark.Else items arm → Reads Body arm end before after all
-      → Has mark.EndIf end rest → Reads Otherwise items rest before after all
+      → Condition mark.If items arm k l e → Reads values Body arm other l m accepted → Reads values Otherwise other end m n otherwise → Has mark.Semicolon end behind
+      → Reads values Body behind rest n o others → IsSelect e accepted otherwise others all → Reads values Body items rest k o all
+  ended : (items rest : List Item) (notes : List Note) → Has mark.EndIf items rest → Reads values Otherwise items rest notes notes list.End
+  others : (items arm end rest : List Item) (before after : List Note) (all : StatementList) → Has mark.Else items arm → Reads values Body arm end before after all
+      → Has mark.EndIf end rest → Reads values Otherwise items rest before after all
   another : (items arm other rest : List Item) (k l m n : List Note) (e : Expression) (accepted otherwise all : StatementList)
-      → Condition mark.Elsif items arm k l e → Reads Body arm other l m accepted → Reads Otherwise other rest m n otherwise
-      → IsSelect e accepted otherwise list.End all → Reads Otherwise items rest k n all
+      → Condition mark.Elsif items arm k l e → Reads values Body arm other l m accepted → Reads values Otherwise other rest m n otherwise
+      → IsSelect e accepted otherwise list.End all → Reads values Otherwise items rest k n all
+  set : (items behind rest : List Item) (before between after : List Note) (integer chosen : ℕ) (others all : StatementList)
+      → IsSet values items behind before between integer chosen → Reads values Body behind rest between after others
+      → IsSetting values integer chosen 0 others all → Reads values Body items rest before after all
+  choose : (items numbers arm other end behind rest : List Item) (k l m n o : List Note) (integer : ℕ) (e : Expression)
+      (accepted otherwise others all : StatementList) → Selector items numbers k l integer → Numbers values integer numbers arm e
+      → Reads values Body arm other l m accepted → Reads values (Choices integer) other end m n otherwise → Has mark.Semicolon end behind
+      → Reads values Body behind rest n o others → IsSelect e accepted otherwise others all → Reads values Body items rest k o all
+  chosen : (integer : ℕ) (items rest : List Item) (notes : List Note) → Has mark.EndCase items rest
+      → Reads values (Choices integer) items rest notes notes list.End
+  none_chosen : (integer : ℕ) (items arm end rest : List Item) (before after : List Note) (all : StatementList) → Has mark.Else items arm
+      → Reads values Body arm end before after all → Has mark.EndCase end rest → Reads values (Choices integer) items rest before after all
+  next_choice : (integer : ℕ) (items arm other rest : List Item) (k l m n : List Note) (e : Expression) (accepted otherwise all : StatementList)
+      → Labels values integer items arm k l e → Reads values Body arm other l m accepted → Reads values (Choices integer) other rest m n otherwise
+      → IsSelect e accepted otherwise list.End all → Reads values (Choices integer) items rest k n all

@@ -3,20 +3,22 @@
 ghost use Rattle.std.specs.Prelude.{◌≡◌, ◌==◌, ◌≤◌, ◌<◌, ◌∷◌, true, length, false, None, IfSome, IfOk, IsTrue, OnOk, Some};
 ghost use Rattle.diagram_declarations.specs.Text.{begins_with};
 ghost use Rattle.st_words.specs.Places.{spelled};
-ghost use Rattle.st_program.specs.Declarations.{Adds, Declaration, Declarations, Initial, MayShare, Names, Place, Sections, Semicolon, Typed};
+ghost use Rattle.st_program.specs.Declarations.{Adds, Declaration, Declarations, Initial, InitialNumber, IsInteger, MayShare, Names, Place, Sections, Semicolon, Typed};
 ghost use Rattle.st_program.specs.Marks.{section_of};
 ghost use Rattle.st_program.specs.Phrases.{Marked};
 ghost use Rattle.st_program.specs.Symbols.{table};
 ghost use Rattle.st_program.specs.declared.mark.Mark.{Mark};
+ghost use Rattle.st_program.specs.declared.mark.Mark.TheVariants as Mark;
 ghost use Rattle.st_program.specs.declared.symbols.Declared.TheVariants as Declared;
 ghost use Rattle.st_words.specs.declared.word.Word.{Word};
 
 use crate::fault::{Expected, Refusal};
 use crate::mark::{Mark, kind_of, section_of};
 use crate::phrases::{behind, due, first_mark, first_word, place_of};
-use crate::preset::read_preset;
+use crate::preset::{preset_of, read_preset};
 use crate::spelling::bytes_of;
 use crate::symbols::{Declared, Section, Sort, Symbols};
+use diagram_declarations::Parameter;
 use st_words::Word;
 use std::alloc::Global;
 
@@ -88,6 +90,56 @@ fn read_initial<'a>(text: &[u8], words: &'a [Word]) -> Result<(bool, &'a [Word])
     }
 }
 
+/// The number of a word that an INT can have.
+pub(crate) fn integer_of(word: &[u8]) -> Option<u32>
+    ensures { IfSome result (IsInteger word.now) }
+{
+    preset_of(Parameter::Count, word)
+}
+
+/// The value that an INT has at the start, and what is behind it.
+fn read_number<'a>(text: &[u8], words: &'a [Word]) -> Result<(u32, &'a [Word]), Refusal>
+    ensures number { IfOk result (λ x. InitialNumber text.now words.now x.1.now x.0) }
+    ensures shorter { IfOk result (λ x. length x.1.now ≤ length words.now) }
+{
+    let Some(value) = behind(text, Mark::Becomes, words) else {
+        return Ok((0, words));
+    };
+    let fault = Refusal::Due {
+        at: place_of(value),
+        expected: Expected::Number,
+    };
+    let Some((word, rest)) = first_word(value) else {
+        return Err(fault);
+    };
+    match integer_of(bytes_of(text, word)) {
+        Some(number) => Ok((number, rest)),
+        None => Err(fault),
+    }
+}
+
+/// The type INT, which a variable of VAR alone can have, and what is behind it.
+fn read_integer<'a>(
+    text: &[u8],
+    section: Section,
+    words: &'a [Word],
+    after: &'a [Word],
+) -> Result<(Declared, &'a [Word]), Refusal>
+    requires { Marked text.now Mark.Int words.now after.now }
+    ensures typed { IfOk result (λ x. Typed text.now section None words.now x.1.now x.0) }
+    ensures shorter { IfOk result (λ x. length x.1.now ≤ length after.now) }
+{
+    match section {
+        Section::Local => {
+            let (initial, rest) = read_number(text, after)?;
+            Ok((Declared::Integer { section, initial }, rest))
+        }
+        Section::Input | Section::Output => Err(Refusal::Type {
+            at: place_of(words),
+        }),
+    }
+}
+
 /// What a trigger is declared as.
 fn trigger(section: Section, sort: Sort) -> Declared
     ensures { result ≡ Declared.Variable section None false sort }
@@ -128,7 +180,22 @@ fn read_block_type<'a>(
     Ok((Declared::Block { kind, preset }, rest))
 }
 
-/// A type of a variable, of a trigger or of a block, and what is behind it. A trigger and a block have no address.
+/// A type of a name without an address, and what is behind it.
+fn read_unplaced_type<'a>(
+    text: &[u8],
+    section: Section,
+    words: &'a [Word],
+) -> Result<(Declared, &'a [Word]), Refusal>
+    ensures typed { IfOk result (λ x. Typed text.now section None words.now x.1.now x.0) }
+    ensures shorter { IfOk result (λ x. length x.1.now < length words.now) }
+{
+    match behind(text, Mark::Int, words) {
+        Some(after) => read_integer(text, section, words, after),
+        None => read_block_type(text, section, words),
+    }
+}
+
+/// A type of a variable, of a trigger or of a block, and what is behind it. An INT, a trigger and a block have no address.
 fn read_type<'a>(
     text: &[u8],
     section: Section,
@@ -149,7 +216,7 @@ fn read_type<'a>(
         return Ok((declared, rest));
     }
     match address {
-        None => read_block_type(text, section, words),
+        None => read_unplaced_type(text, section, words),
         Some(_) => Err(Refusal::Type {
             at: place_of(words),
         }),

@@ -43,7 +43,8 @@ pub(crate) fn fault_at(items: &[Item], expected: Expected) -> Refusal {
     match (item.mark, item.named, item.literal) {
         (Mark::Other, _, _) if item.is_member => Refusal::Member { at },
         (Mark::Other, Named::Trigger { .. } | Named::Block { .. }, _) => Refusal::Member { at },
-        (Mark::Other, Named::Nothing, Literal::Nothing) => Refusal::Name { at },
+        (Mark::Other, Named::Integer(_), _) => Refusal::Integer { at },
+        (Mark::Other, Named::Nothing, Literal::Nothing) if item.is_name => Refusal::Name { at },
         _ => due_at(items, expected),
     }
 }

@@ -22,6 +22,10 @@ pub enum Expected {
     Parameter,
     /// A duration such as `T#5s`, or a number up to 32767.
     Preset,
+    /// A number up to 32767, which an INT is to have.
+    Number,
+    /// The name of an INT.
+    Integer,
     Expression,
     /// A statement, or the end of those before.
     Statement,
@@ -51,6 +55,10 @@ pub enum Refusal {
     },
     #[error("a statement or an operator that can't be drawn")]
     Undrawable {
+        at: Option<usize>,
+    },
+    #[error("an INT that is neither set to a number, compared with one nor chosen by CASE")]
+    Integer {
         at: Option<usize>,
     },
     #[error("what a program can't read or write of a block")]

@@ -1,22 +1,24 @@
 //! What the words of statements are, with what their names stand for.
 
-ghost use Rattle.std.specs.Prelude.{◌≡◌, ◌==◌, ◌≤◌, ◌+◌, IfOk, position, drop, take, length, IfSome};
+ghost use Rattle.std.specs.Prelude.{◌≡◌, ◌==◌, ◌≤◌, ◌+◌, ◌++◌, true, IfOk, OnOk, position, drop, take, length, IfSome};
 ghost use Rattle.diagram_declarations.specs.Kind.{traits_of};
 ghost use Rattle.st_words.specs.Places.{spelled};
-ghost use Rattle.st_program.specs.Items.{AreItems, IsItem, IsLiteral, alone, is_input, is_input_address, member, named_of, of_variable, operand_of, output_word, token_by};
+ghost use Rattle.st_program.specs.Items.{AreItems, IsCompared, IsItem, IsLiteral, alone, compared, comparison, comparison_token, equality_of, is_input, is_input_address, is_loose, member, named_of, of_variable, operand_of, output_word, token_by, values_in};
 ghost use Rattle.st_program.specs.Symbols.{table};
 
+use crate::declarations::integer_of;
 use crate::fault::Refusal;
 use crate::formal::{Formal, formal_of};
 use crate::mark::{Mark, mark_of};
 use crate::phrases::first_word;
 use crate::preset::preset_of;
-use crate::spelling::bytes_of;
+use crate::spelling::{bytes_of, is_name};
 use crate::symbols::{Section, Sort, StVariable, Symbols, block_of, variable_of};
 use diagram_declarations::{BlockKind, Output, Parameter, same_letters};
 use st_expression::{Operand, Token};
+use st_integers::{IntegerValue, variable_with};
 use st_words::Word;
-use std::alloc::Global;
+use std::alloc::{AllocError, Global};
 
 /// What a word names.
 #[derive(Clone, Copy)]
@@ -37,6 +39,10 @@ pub(crate) enum Named {
         kind: BlockKind,
         preset: Option<u32>,
     },
+    /// An INT goes by the number of the variable that stands where it is declared.
+    Integer(usize),
+    /// It is a comparison of an INT with a number.
+    Compared,
 }
 
 /// What a word is as a preset.
@@ -60,6 +66,8 @@ pub(crate) struct Item {
     pub literal: Literal,
     /// It has a point behind a name that is declared: a fault in it is one of a member.
     pub is_member: bool,
+    /// It has the form of a name: a fault in it may be that it isn't declared.
+    pub is_name: bool,
 }
 
 /// Whether the bytes of an address are those of an input.
@@ -97,12 +105,13 @@ fn of_variable(text: &[u8], variable: StVariable, number: usize) -> Named
             number,
             falling: true,
         },
+        Sort::Value(value) => Named::Integer(value.integer),
     }
 }
 
 /// What a word names.
 #[tactic(auto, unfolding(crate::specs::Items::named_of))]
-fn named_of(text: &[u8], symbols: &Symbols, word: &[u8]) -> Named
+pub(crate) fn named_of(text: &[u8], symbols: &Symbols, word: &[u8]) -> Named
     ensures { result ≡ named_of text.now (table symbols.now) word.now }
 {
     if let Some(number) = variable_of(text, &symbols.variables, word) {
@@ -236,7 +245,103 @@ fn item_of(text: &[u8], symbols: &Symbols, word: Word) -> Item
         formal: formal_of(spelling),
         literal: literal_of(spelling),
         is_member: is_member(text, symbols, spelling),
+        is_name: is_name(spelling),
     }
+}
+
+/// What an operand is that is TRUE where an INT has the value of a variable; FALSE where there is none.
+fn comparison_token(number: Option<usize>) -> Token
+    ensures { result ≡ comparison_token number }
+{
+    match number {
+        Some(number) => Token::Operand(Operand::Variable(number)),
+        None => Token::Constant(false),
+    }
+}
+
+/// A comparison, or the NOT before one.
+fn compared(word: Word, mark: Mark, token: Token) -> Item
+    ensures { result ≡ compared word mark token }
+{
+    Item {
+        word,
+        mark,
+        token,
+        named: Named::Compared,
+        formal: Formal::Other,
+        literal: Literal::Nothing,
+        is_member: false,
+        is_name: false,
+    }
+}
+
+/// Whether a sign asks for being equal, or unequal.
+fn equality_of(sign: Mark) -> Option<bool>
+    ensures { result ≡ equality_of sign }
+{
+    match sign {
+        Mark::Equal => Some(true),
+        Mark::Unequal => Some(false),
+        _ => None,
+    }
+}
+
+/// Whether a comparison may stand behind a word.
+fn is_loose(mark: Mark) -> bool
+    ensures { result ≡ is_loose mark }
+{
+    !matches!(mark, Mark::Not | Mark::Equal | Mark::Unequal)
+}
+
+/// A comparison of an INT with a number.
+#[derive(Clone, Copy)]
+struct Comparison {
+    name: Word,
+    is_equal: bool,
+    /// The variable that is on while the INT has the number.
+    number: Option<usize>,
+}
+
+/// The comparison that words begin with, and what is behind it.
+fn comparison_at<'a>(
+    text: &[u8],
+    symbols: &Symbols,
+    values: &[Option<IntegerValue>],
+    words: &'a [Word],
+) -> Option<(Comparison, &'a [Word])>
+    requires { values.now ≡ values_in (table symbols.now) }
+    ensures { IfSome result (λ x. IsCompared text.now (table symbols.now) words.now x.1.now x.0.name x.0.is_equal x.0.number) }
+{
+    let (name, behind_name) = first_word(words)?;
+    let (sign, behind_sign) = first_word(behind_name)?;
+    let (digits, rest) = first_word(behind_sign)?;
+    let Named::Integer(integer) = named_of(text, symbols, bytes_of(text, name)) else {
+        return None;
+    };
+    let is_equal = equality_of(mark_of(bytes_of(text, sign)))?;
+    let value = integer_of(bytes_of(text, digits))?;
+    let comparison = Comparison {
+        name,
+        is_equal,
+        number: variable_with(values, integer, value),
+    };
+    Some((comparison, rest))
+}
+
+/// Adds what a comparison is.
+fn add_comparison(items: &mut Vec<Item>, made: Comparison) -> Result<(), AllocError>
+    ensures { OnOk result (items.new.items ≡ items.old.items ++ comparison made.name made.is_equal made.number) }
+{
+    let Comparison {
+        name,
+        is_equal,
+        number,
+    } = made;
+    if !is_equal {
+        items.push(compared(name, Mark::Not, Token::Not))?;
+    }
+    items.push(compared(name, Mark::Other, comparison_token(number)))?;
+    Ok(())
 }
 
 /// All that the words are.
@@ -244,15 +349,29 @@ pub(crate) fn items_of(
     alloc: Global,
     text: &[u8],
     symbols: &Symbols,
+    values: &[Option<IntegerValue>],
     words: &[Word],
 ) -> Result<Vec<Item>, Refusal>
-    ensures { IfOk result (λ items. AreItems text.now (table symbols.now) words.now items.items) }
+    requires { values.now ≡ values_in (table symbols.now) }
+    ensures { IfOk result (λ items. AreItems text.now (table symbols.now) true words.now items.items) }
 {
     let mut items = Vec::new(alloc);
     let mut rest = words;
+    let mut may_compare = true;
     while let Some((word, after)) = first_word(rest) {
-        items.push(item_of(text, symbols, word))?;
-        rest = after;
+        match comparison_at(text, symbols, values, rest) {
+            Some((comparison, behind)) if may_compare => {
+                add_comparison(&mut items, comparison)?;
+                may_compare = true;
+                rest = behind;
+            }
+            _ => {
+                let item = item_of(text, symbols, word);
+                items.push(item)?;
+                may_compare = is_loose(item.mark);
+                rest = after;
+            }
+        }
     }
     Ok(items)
 }

@@ -17,6 +17,7 @@ pub enum Mark {
     EndVar,
     At,
     Bool,
+    Int,
     Ton,
     Tof,
     Tp,
@@ -35,6 +36,9 @@ pub enum Mark {
     Elsif,
     Else,
     EndIf,
+    Case,
+    Of,
+    EndCase,
     Return,
     Not,
     /// `AND` or `&`
@@ -61,7 +65,7 @@ pub enum Mark {
 }
 
 /// The spellings of keywords and symbols.
-const MARKS: [(&[u8], Mark); 55] = [
+const MARKS: [(&[u8], Mark); 58] = [
     (b"PROGRAM", Mark::Program),
     (b"END_PROGRAM", Mark::EndProgram),
     (b"VAR", Mark::Var),
@@ -70,6 +74,7 @@ const MARKS: [(&[u8], Mark); 55] = [
     (b"END_VAR", Mark::EndVar),
     (b"AT", Mark::At),
     (b"BOOL", Mark::Bool),
+    (b"INT", Mark::Int),
     (b"TON", Mark::Ton),
     (b"TOF", Mark::Tof),
     (b"TP", Mark::Tp),
@@ -86,6 +91,9 @@ const MARKS: [(&[u8], Mark); 55] = [
     (b"ELSIF", Mark::Elsif),
     (b"ELSE", Mark::Else),
     (b"END_IF", Mark::EndIf),
+    (b"CASE", Mark::Case),
+    (b"OF", Mark::Of),
+    (b"END_CASE", Mark::EndCase),
     (b"RETURN", Mark::Return),
     (b"NOT", Mark::Not),
     (b"AND", Mark::And),
@@ -104,7 +112,6 @@ const MARKS: [(&[u8], Mark); 55] = [
     (b"FOR", Mark::Undrawable),
     (b"WHILE", Mark::Undrawable),
     (b"REPEAT", Mark::Undrawable),
-    (b"CASE", Mark::Undrawable),
     (b"EXIT", Mark::Undrawable),
     (b"MOD", Mark::Undrawable),
     (b"+", Mark::Undrawable),

@@ -19,7 +19,9 @@ use crate::phrases::{behind, first_word, place_of};
 use crate::spelling::{bytes_of, is_name};
 use crate::statements::statements_at;
 use crate::symbols::{Block, StVariable, Symbols};
+use crate::values::add_values;
 use diagram_declarations::BlockKind;
+use st_integers::IntegerValue;
 use st_statements::StatementList;
 use st_words::{Word, WordFault, read_words};
 use std::alloc::{AllocError, Global};
@@ -33,7 +35,8 @@ pub struct StInstance {
     pub preset: u32,
 }
 
-/// A program. Its variables and instances go by their numbers, in order of declaration.
+/// A program. Its variables and instances go by their numbers, in order of declaration; behind the variables that are declared stand those of the
+/// numbers that are assigned to INTs.
 #[derive(Drop)]
 pub struct StProgram {
     pub variables: Vec<StVariable>,
@@ -172,11 +175,15 @@ fn symbols_of<'a>(
 }
 
 /// The statements of a program, with what is noted of them.
-fn body_of(alloc: Global, items: &[Item]) -> Result<(StatementList, Vec<Note>), Refusal>
-    ensures { IfOk result (λ x. (rest : List Item) × Reads Body items.now rest [] x.1.items x.0 × Ending rest) }
+fn body_of(
+    alloc: Global,
+    values: &[Option<IntegerValue>],
+    items: &[Item],
+) -> Result<(StatementList, Vec<Note>), Refusal>
+    ensures { IfOk result (λ x. (rest : List Item) × Reads values.now Body items.now rest [] x.1.items x.0 × Ending rest) }
 {
     let mut notes = Vec::new(alloc);
-    let (statements, rest) = statements_at(alloc, items, &mut notes)?;
+    let (statements, rest) = statements_at(alloc, values, items, &mut notes)?;
     if !is_ending(rest) {
         return Err(fault_at(rest, Expected::End));
     }
@@ -188,9 +195,10 @@ fn program_of(alloc: Global, text: &[u8], words: &[Word]) -> Result<StProgram, R
     ensures { IfOk result (IsProgram text.now words.now) }
 {
     let behind_heading = after_heading(text, words)?;
-    let (symbols, body) = symbols_of(alloc, text, behind_heading)?;
-    let items = items_of(alloc, text, &symbols, body)?;
-    let (statements, notes) = body_of(alloc, &items)?;
+    let (mut symbols, body) = symbols_of(alloc, text, behind_heading)?;
+    let values = add_values(alloc, text, &mut symbols, body)?;
+    let items = items_of(alloc, text, &symbols, &values, body)?;
+    let (statements, notes) = body_of(alloc, &values, &items)?;
     let Symbols { variables, blocks } = symbols;
     let instances = instances_of(alloc, &blocks, &notes)?;
     let places = places_of(alloc, &notes)?;

@@ -277,6 +277,8 @@ pub(crate) fn simple_at<'a>(
             };
             block_at(alloc, item, block, behind, notes)
         }
-        Named::Nothing => Err(fault_at(items, Expected::Statement)),
+        Named::Nothing | Named::Integer(_) | Named::Compared => {
+            Err(fault_at(items, Expected::Statement))
+        }
     }
 }

@@ -1,19 +1,22 @@
 //! Lists of statements.
 
-ghost use Rattle.std.specs.Prelude.{◌≡◌, ◌≤◌, ◌<◌, List, length, IfOk};
+ghost use Rattle.std.specs.Prelude.{◌≡◌, ◌≤◌, ◌<◌, List, Option, length, IfOk};
+ghost use Rattle.st_integers.specs.declared.value.IntegerValue.{IntegerValue};
 ghost use Rattle.st_statements.specs.declared.statement.StatementList.{StatementList};
-ghost use Rattle.st_program.specs.Statements.{Body, Condition, IsSelect, Otherwise, Reads, WithCopy, WithSimple, source_of};
+ghost use Rattle.st_program.specs.Statements.{Body, Choices, Condition, IsSelect, Otherwise, Reads, WithCopy, WithSimple, source_of};
 ghost use Rattle.st_program.specs.declared.item.Item.{Item};
 ghost use Rattle.st_program.specs.declared.notes.Note.{Note};
 
 use crate::arguments::Copied;
+use crate::choice::{labels_at, numbers_at, selector_at, set_at};
 use crate::expressions::{after, due_at, expect, expression_at, first_item};
 use crate::fault::{Expected, Refusal};
-use crate::item::Item;
+use crate::item::{Item, Literal, Named};
 use crate::mark::{Mark, is_mark};
 use crate::notes::{Called, Note, add_note};
 use crate::simple::{Simple, simple_at};
 use st_expression::{Expression, Operand};
+use st_integers::{IntegerValue, with_setting};
 use st_statements::StatementList;
 use std::alloc::Global;
 
@@ -144,8 +147,8 @@ fn condition_at<'a>(
 
 /// What is behind semicolons with nothing before them.
 fn after_empty(items: &[Item]) -> &[Item]
-    ensures empty { (rest : List Item) (before after : List Note) (all : StatementList) → Reads Body result.now rest before after all
-        → Reads Body items.now rest before after all }
+    ensures empty { (values : List (Option IntegerValue)) (rest : List Item) (before after : List Note) (all : StatementList)
+        → Reads values Body result.now rest before after all → Reads values Body items.now rest before after all }
     ensures shorter { length result.now ≤ length items.now }
 {
     let mut rest = items;
@@ -159,6 +162,10 @@ fn after_empty(items: &[Item]) -> &[Item]
 enum Start {
     Simple,
     Select,
+    /// `CASE`
+    Choice,
+    /// An INT that is set.
+    Setting,
     /// The end of the text, or a keyword behind the last statement of a list.
     End,
 }
@@ -168,9 +175,13 @@ fn start_of(items: &[Item]) -> Start {
     let Some((item, _)) = first_item(items) else {
         return Start::End;
     };
-    match item.mark {
-        Mark::If => Start::Select,
-        Mark::Elsif | Mark::Else | Mark::EndIf | Mark::EndProgram => Start::End,
+    match (item.mark, item.named, item.literal) {
+        (Mark::If, _, _) => Start::Select,
+        (Mark::Case, _, _) => Start::Choice,
+        (Mark::Elsif | Mark::Else | Mark::EndIf | Mark::EndCase | Mark::EndProgram, _, _) =>
+            Start::End,
+        (_, Named::Integer(_), _) => Start::Setting,
+        (_, _, Literal::Count(_)) => Start::End,
         _ => Start::Simple,
     }
 }
@@ -179,19 +190,27 @@ fn start_of(items: &[Item]) -> Start {
 #[cycle(statements)]
 pub(crate) fn statements_at<'a>(
     alloc: Global,
+    values: &[Option<IntegerValue>],
     items: &'a [Item],
     notes: &mut Vec<Note>,
 ) -> Result<(StatementList, &'a [Item]), Refusal>
-    ensures reads { IfOk result (λ x. Reads Body items.now x.1.now notes.old.items notes.new.items x.0) }
+    ensures reads { IfOk result (λ x. Reads values.now Body items.now x.1.now notes.old.items notes.new.items x.0) }
     ensures shorter { IfOk result (λ x. length x.1.now ≤ length items.now) }
 {
     let begun = after_empty(items);
     match start_of(begun) {
         Start::End => Ok((StatementList::End, begun)),
-        Start::Select => select_at(alloc, begun, notes),
+        Start::Select => select_at(alloc, values, begun, notes),
+        Start::Choice => choose_at(alloc, values, begun, notes),
+        Start::Setting => {
+            let (set, behind) = set_at(values, begun, notes)?;
+            let (others, rest) = statements_at(alloc, values, behind, notes)?;
+            let whole = with_setting(alloc, values, set.integer, set.chosen, others)?;
+            Ok((whole, rest))
+        }
         Start::Simple => {
             let (simple, copy, behind) = simple_at(alloc, begun, notes)?;
-            let (others, rest) = statements_at(alloc, behind, notes)?;
+            let (others, rest) = statements_at(alloc, values, behind, notes)?;
             Ok((joined(alloc, simple, copy, others)?, rest))
         }
     }
@@ -201,17 +220,18 @@ pub(crate) fn statements_at<'a>(
 #[cycle(statements)]
 fn select_at<'a>(
     alloc: Global,
+    values: &[Option<IntegerValue>],
     items: &'a [Item],
     notes: &mut Vec<Note>,
 ) -> Result<(StatementList, &'a [Item]), Refusal>
-    ensures reads { IfOk result (λ x. Reads Body items.now x.1.now notes.old.items notes.new.items x.0) }
+    ensures reads { IfOk result (λ x. Reads values.now Body items.now x.1.now notes.old.items notes.new.items x.0) }
     ensures shorter { IfOk result (λ x. length x.1.now < length items.now) }
 {
     let (condition, arm) = condition_at(alloc, Mark::If, items, notes)?;
-    let (accepted, other) = statements_at(alloc, arm, notes)?;
-    let (otherwise, end) = otherwise_at(alloc, other, notes)?;
+    let (accepted, other) = statements_at(alloc, values, arm, notes)?;
+    let (otherwise, end) = otherwise_at(alloc, values, other, notes)?;
     let behind = expect(Mark::Semicolon, end)?;
-    let (others, rest) = statements_at(alloc, behind, notes)?;
+    let (others, rest) = statements_at(alloc, values, behind, notes)?;
     Ok((select(alloc, condition, accepted, otherwise, others)?, rest))
 }
 
@@ -219,23 +239,71 @@ fn select_at<'a>(
 #[cycle(statements)]
 fn otherwise_at<'a>(
     alloc: Global,
+    values: &[Option<IntegerValue>],
     items: &'a [Item],
     notes: &mut Vec<Note>,
 ) -> Result<(StatementList, &'a [Item]), Refusal>
-    ensures reads { IfOk result (λ x. Reads Otherwise items.now x.1.now notes.old.items notes.new.items x.0) }
+    ensures reads { IfOk result (λ x. Reads values.now Otherwise items.now x.1.now notes.old.items notes.new.items x.0) }
     ensures shorter { IfOk result (λ x. length x.1.now < length items.now) }
 {
     if let Some(rest) = after(Mark::EndIf, items) {
         return Ok((StatementList::End, rest));
     }
     if let Some(arm) = after(Mark::Else, items) {
-        let (all, end) = statements_at(alloc, arm, notes)?;
+        let (all, end) = statements_at(alloc, values, arm, notes)?;
         let rest = expect(Mark::EndIf, end)?;
         return Ok((all, rest));
     }
     let (condition, arm) = condition_at(alloc, Mark::Elsif, items, notes)?;
-    let (accepted, other) = statements_at(alloc, arm, notes)?;
-    let (otherwise, rest) = otherwise_at(alloc, other, notes)?;
+    let (accepted, other) = statements_at(alloc, values, arm, notes)?;
+    let (otherwise, rest) = otherwise_at(alloc, values, other, notes)?;
+    let whole = select(alloc, condition, accepted, otherwise, StatementList::End)?;
+    Ok((whole, rest))
+}
+
+/// A CASE and the statements behind it, and what is behind them.
+#[cycle(statements)]
+fn choose_at<'a>(
+    alloc: Global,
+    values: &[Option<IntegerValue>],
+    items: &'a [Item],
+    notes: &mut Vec<Note>,
+) -> Result<(StatementList, &'a [Item]), Refusal>
+    ensures reads { IfOk result (λ x. Reads values.now Body items.now x.1.now notes.old.items notes.new.items x.0) }
+    ensures shorter { IfOk result (λ x. length x.1.now < length items.now) }
+{
+    let (integer, numbers) = selector_at(items, notes)?;
+    let (condition, arm) = numbers_at(alloc, values, integer, numbers)?;
+    let (accepted, other) = statements_at(alloc, values, arm, notes)?;
+    let (otherwise, end) = choices_at(alloc, values, integer, other, notes)?;
+    let behind = expect(Mark::Semicolon, end)?;
+    let (others, rest) = statements_at(alloc, values, behind, notes)?;
+    Ok((select(alloc, condition, accepted, otherwise, others)?, rest))
+}
+
+/// What is run where an INT has none of the numbers before, up to END_CASE, and what is behind that.
+#[cycle(statements)]
+fn choices_at<'a>(
+    alloc: Global,
+    values: &[Option<IntegerValue>],
+    integer: usize,
+    items: &'a [Item],
+    notes: &mut Vec<Note>,
+) -> Result<(StatementList, &'a [Item]), Refusal>
+    ensures reads { IfOk result (λ x. Reads values.now (Choices integer) items.now x.1.now notes.old.items notes.new.items x.0) }
+    ensures shorter { IfOk result (λ x. length x.1.now < length items.now) }
+{
+    if let Some(rest) = after(Mark::EndCase, items) {
+        return Ok((StatementList::End, rest));
+    }
+    if let Some(arm) = after(Mark::Else, items) {
+        let (all, end) = statements_at(alloc, values, arm, notes)?;
+        let rest = expect(Mark::EndCase, end)?;
+        return Ok((all, rest));
+    }
+    let (condition, arm) = labels_at(alloc, values, integer, items, notes)?;
+    let (accepted, other) = statements_at(alloc, values, arm, notes)?;
+    let (otherwise, rest) = choices_at(alloc, values, integer, other, notes)?;
     let whole = select(alloc, condition, accepted, otherwise, StatementList::End)?;
     Ok((whole, rest))
 }

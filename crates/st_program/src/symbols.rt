@@ -8,6 +8,7 @@ ghost use Rattle.st_program.specs.Symbols.{IsFresh, added, block_of, table, vari
 use crate::fault::{Expected, Refusal};
 use crate::spelling::{bytes_of, is_name};
 use diagram_declarations::{BlockKind, same_letters};
+use st_integers::IntegerValue;
 use st_words::Word;
 
 /// The most names that a program may declare.
@@ -32,6 +33,8 @@ pub enum Sort {
     Rising,
     /// An `F_TRIG`, whose variable is its output.
     Falling,
+    /// It is on while an INT has this value. The variable of its value at the start stands where the INT is declared.
+    Value(IntegerValue),
 }
 
 /// A variable, or the output of a trigger.
@@ -62,6 +65,10 @@ pub(crate) enum Declared {
         address: Option<Word>,
         initial: bool,
         sort: Sort,
+    },
+    Integer {
+        section: Section,
+        initial: u32,
     },
     Block {
         kind: BlockKind,
@@ -144,6 +151,19 @@ impl Symbols {
                 initial,
                 sort,
             })?,
+            Declared::Integer { section, initial } => {
+                let value = IntegerValue {
+                    integer: self.variables.len(),
+                    value: initial,
+                };
+                self.variables.push(StVariable {
+                    name,
+                    section,
+                    address: None,
+                    initial: true,
+                    sort: Sort::Value(value),
+                })?
+            }
             Declared::Block { kind, preset } => self.blocks.push(Block { name, kind, preset })?,
         }
         Ok(())

@@ -12,5 +12,6 @@ mod quote;
 mod reason;
 mod rule;
 
+pub use quote::{Marks, WIDEST, add_near};
 pub use reason::write_reason;
 pub use rule::{RuleText, grid_rule, rule_text, var_rule};

@@ -19,7 +19,7 @@ const DIGITS: usize = 5;
 const WIDTH: usize = 160;
 
 /// How many spaces there are in a row at most.
-pub(crate) const WIDEST: usize = RAIL + 1;
+pub const WIDEST: usize = RAIL + 1;
 
 const SPACES: &[u8; WIDEST] = &[b' '; WIDEST];
 
@@ -28,13 +28,13 @@ const MARGIN: &[u8] = b"        | ";
 
 const CARETS: &[u8; CELL] = &[b'^'; CELL];
 
-/// What is written under a line of a drawing.
+/// What is written under a quoted line.
 #[derive(Clone, Copy)]
-pub(crate) struct Marks {
-    /// How many spaces come first.
-    pub(crate) indent: usize,
-    /// How many marks there are.
-    pub(crate) count: usize,
+pub struct Marks {
+    /// How many spaces come first, at most `WIDEST`.
+    pub indent: usize,
+    /// How many marks there are, at most as many as a cell is wide.
+    pub count: usize,
 }
 
 /// A byte as it is quoted: `?` for a control character, so that no terminal acts on it.
@@ -218,7 +218,7 @@ fn add_from<W: Sink>(
 }
 
 /// Adds the line where a fault shows, with the marks under it, and the lines before and after it.
-pub(crate) fn add_near<W: Sink>(
+pub fn add_near<W: Sink>(
     buffer: &mut TextBuffer,
     text: &[u8],
     line: usize,

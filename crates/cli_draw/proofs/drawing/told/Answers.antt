@@ -2,4 +2,4 @@ use Rattle.std.proofs.Common.{inr}
 use Rattle.cli_draw.proofs.drawing.told.Goals as goal
 
 pub returns-in-Err-clause-said : goal.returns-in-Err-clause-said
-returns-in-Err-clause-said g c = record { reason = c.args.fault; written = inr c.in-Err.ensures }
+returns-in-Err-clause-said g c = inr c.in-Err.ensures

@@ -1,4 +1,4 @@
-use Rattle.std.proofs.Common.{inr, refl}
+use Rattle.std.proofs.Common.{inl, inr, refl}
 use Rattle.cli_draw.proofs.drawing.write_drawing.Goals as goal
 
 pub returns-in-Ok-put-clause-done : goal.returns-in-Ok-put-clause-done
@@ -24,3 +24,6 @@ returns-in-Ok-clause-failed g c = λ status. inr (
   },
   c.report_unread.ensures.line,
 )
+
+pub returns-clause-failed : goal.returns-clause-failed
+returns-clause-failed g c = λ status. inl (refl, record { reason = c.in-Err.fault; said = c.told.ensures.said })

@@ -13,6 +13,9 @@ returns-in-Type g c = rw c.in-Type.is c.add_worded-in-Type.ensures
 pub returns-in-Undrawable : goal.returns-in-Undrawable
 returns-in-Undrawable g c = rw c.in-Undrawable.is c.add_worded-in-Undrawable.ensures
 
+pub returns-in-Integer : goal.returns-in-Integer
+returns-in-Integer g c = rw c.in-Integer.is c.add_worded-in-Integer.ensures
+
 pub returns-in-Member : goal.returns-in-Member
 returns-in-Member g c = rw c.in-Member.is c.add_worded-in-Member.ensures
 

@@ -1,4 +1,4 @@
-use Rattle.std.proofs.Common.{arith, sym, length-take, ◌∙◌}
+use Rattle.std.proofs.Common.{arith, length-take}
 use Rattle.draw_program.proofs.matching.shown_of.Goals as goal
 
 pub slice_bounds-result-end : goal.slice_bounds-result-end

@@ -1,4 +1,4 @@
-use Rattle.st_program.specs.Statements.{nothing, single, select, ended, others, another}
+use Rattle.st_program.specs.Statements.{nothing, single, set, select, ended, others, another, choose, chosen, none_chosen, next_choice}
 use Rattle.st_program.proofs.statements.+statements.Goals as goal
 
 pub otherwise_at-returns-in-Some-clause-reads : goal.otherwise_at-returns-in-Some-clause-reads
@@ -19,11 +19,34 @@ select_at-returns-clause-reads t c =
     c.in_ok-behind.ensures.has c.in_ok-others.ensures.reads c.in_ok-select.ensures
 
 pub statements_at-returns-in-End-clause-reads : goal.statements_at-returns-in-End-clause-reads
-statements_at-returns-in-End-clause-reads t c = c.after_empty-begun.ensures.empty _ _ _ _ (nothing _ _)
+statements_at-returns-in-End-clause-reads t c = c.after_empty-begun.ensures.empty _ _ _ _ _ (nothing _ _)
 
 pub statements_at-returns-in_ok-joined-in-Simple-clause-reads :
     goal.statements_at-returns-in_ok-joined-in-Simple-clause-reads
 statements_at-returns-in_ok-joined-in-Simple-clause-reads t c =
-    c.after_empty-begun.ensures.empty _ _ _ _
+    c.after_empty-begun.ensures.empty _ _ _ _ _
     (single _ _ _ _ _ _ _ _ _ _ _ c.in_ok-simple-in-Simple.ensures.simple c.in_ok-others-in-Simple.ensures.reads
     c.in_ok-joined-in-Simple.ensures.1 c.in_ok-joined-in-Simple.ensures.2)
+
+pub statements_at-returns-in_ok-whole-in-Setting-clause-reads :
+    goal.statements_at-returns-in_ok-whole-in-Setting-clause-reads
+statements_at-returns-in_ok-whole-in-Setting-clause-reads t c =
+    c.after_empty-begun.ensures.empty _ _ _ _ _
+    (set _ _ _ _ _ _ _ _ _ _ c.in_ok-set-in-Setting.ensures.set c.in_ok-others-in-Setting.ensures.reads c.in_ok-whole-in-Setting.ensures)
+
+pub choose_at-returns-clause-reads : goal.choose_at-returns-clause-reads
+choose_at-returns-clause-reads t c =
+    choose _ _ _ _ _ _ _ _ _ _ _ _ _ _ _ _ _ _ c.in_ok-integer.ensures.selector c.in_ok-condition.ensures.numbers c.in_ok-accepted.ensures.reads
+    c.in_ok-otherwise.ensures.reads c.in_ok-behind.ensures.has c.in_ok-others.ensures.reads c.in_ok-select.ensures
+
+pub choices_at-returns-in-Some-clause-reads : goal.choices_at-returns-in-Some-clause-reads
+choices_at-returns-in-Some-clause-reads t c = chosen _ _ _ _ c.in-Some.ensures.has
+
+pub choices_at-returns-in-Some-after-clause-reads : goal.choices_at-returns-in-Some-after-clause-reads
+choices_at-returns-in-Some-after-clause-reads t c =
+    none_chosen _ _ _ _ _ _ _ _ c.in-Some-after.ensures.has c.in_ok-all.ensures.reads c.in_ok-rest.ensures.has
+
+pub choices_at-returns-clause-reads : goal.choices_at-returns-clause-reads
+choices_at-returns-clause-reads t c =
+    next_choice _ _ _ _ _ _ _ _ _ _ _ _ _ c.in_ok-condition.ensures.labels c.in_ok-accepted.ensures.reads c.in_ok-otherwise.ensures.reads
+    c.in_ok-whole.ensures

@@ -9,3 +9,9 @@ decreases-select_at l = 2 * length l.items.now
 
 abbrev pub decreases-otherwise_at : goal.decreases-otherwise_at
 decreases-otherwise_at l = 2 * length l.items.now
+
+abbrev pub decreases-choose_at : goal.decreases-choose_at
+decreases-choose_at l = 2 * length l.items.now
+
+abbrev pub decreases-choices_at : goal.decreases-choices_at
+decreases-choices_at l = 2 * length l.items.now

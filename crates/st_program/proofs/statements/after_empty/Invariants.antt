@@ -1,4 +1,5 @@
-use Rattle.std.proofs.Common.{List, ◌≤◌, length}
+use Rattle.std.proofs.Common.{List, Option, ◌≤◌, length}
+use Rattle.st_integers.specs.declared.value.IntegerValue.{IntegerValue}
 use Rattle.st_statements.specs.declared.statement.StatementList.{StatementList}
 use Rattle.st_program.specs.declared.item.Item.{Item}
 use Rattle.st_program.specs.declared.notes.Note.{Note}
@@ -7,8 +8,8 @@ use Rattle.st_program.proofs.statements.after_empty.Given as goal
 
 abbrev pub invariant-loop-behind : goal.invariant-loop-behind
 invariant-loop-behind l = record {
-  empty : (rest : List Item) (before after : List Note) (all : StatementList) → Reads Body l.rest rest before after all
-      → Reads Body l.items rest before after all;
+  empty : (values : List (Option IntegerValue)) (rest : List Item) (before after : List Note) (all : StatementList)
+      → Reads values Body l.rest rest before after all → Reads values Body l.items rest before after all;
   shorter : length l.rest ≤ length l.items;
 }
 
