@@ -53,7 +53,7 @@ VAR
 pub(crate) const T3: &str = "\
 T3: a name that isn't declared, or is declared twice
 
-Each name is declared once, between `VAR` and `END_VAR`. The case of letters makes no difference.
+Each name is declared once, between `VAR` and `END_VAR`. The case of letters makes no difference. In a drawing each value of an `INT` has a name too, as `step_10`, and of a name the first 32 characters count: two names that would be one there are refused as well.
 
 ```console
 $ sed 's/OR Hand/OR Hands/' pump.st > misspelled.st
