@@ -22,6 +22,3 @@ mod word;
 pub use laying::lay_out;
 pub use names::{Comment, NamedInstance, Names};
 pub use sheet::Layout;
-
-#[cfg(test)]
-mod tests;

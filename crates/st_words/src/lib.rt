@@ -10,6 +10,3 @@ mod word;
 pub use fault::WordFault;
 pub use read::read_words;
 pub use word::Word;
-
-#[cfg(test)]
-mod tests;
