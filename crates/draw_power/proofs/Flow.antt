@@ -31,7 +31,7 @@ use Rattle.draw_power.specs.Power.{Carries, IsBehind, IsClosedWhere, IsFed, Join
 any_values : (f : Frame Bool) → AreValues plain AnyBool f
 any_values f = record { values = λ i. tt; ends = λ i. tt }
 
-fed_at : (p : Drawing) (j : ℕ) (k : Kept) (now : ℕ) (f : Frame Bool) (row column : ℕ) (rows : List Bool)
+pub fed_at : (p : Drawing) (j : ℕ) (k : Kept) (now : ℕ) (f : Frame Bool) (row column : ℕ) (rows : List Bool)
     → ((q : ℕ) → q < ROWS → feeds p j row (suc column) q ≡ has_row rows q) → left p j k now f row (suc column) ≡ power p j k now f (suc column) rows
 unfolding power right
 fed_at p j k now f row column rows same =
@@ -39,7 +39,7 @@ fed_at p j k now f row column rows same =
     ∙ fed_same plain AnyBool plain_lattice ((diagram_of p).feeds j row (suc column)) (has_row rows) (right p j k now f column) (right p j k now f column) ROWS
     (λ q lt. feeds_is p j row (suc column) q ∙ same q lt) (λ q lt t. refl)
 
-first_at : (p : Drawing) (j : ℕ) (k : Kept) (now : ℕ) (f : Frame Bool) (row : ℕ) (rows : List Bool) → left p j k now f row zero ≡ power p j k now f zero rows
+pub first_at : (p : Drawing) (j : ℕ) (k : Kept) (now : ℕ) (f : Frame Bool) (row : ℕ) (rows : List Bool) → left p j k now f row zero ≡ power p j k now f zero rows
 unfolding routes route_value join_all power
 first_at p j k now f row rows = refl
 
@@ -118,7 +118,7 @@ right_is p j k now f through row column c rows columns at h =
     ap (λ o. own plain (diagram_of p) k now f o x y) (cell_is p j (place_at row column) (omega (arith, rows, columns)) ∙ sym at)
     ∙ passed_cell p j k now f through c x y h
 
-power_of_one : (p : Drawing) (j : ℕ) (k : Kept) (now : ℕ) (f : Frame Bool) (row column : ℕ) (rows : List Bool) → row < ROWS
+pub power_of_one : (p : Drawing) (j : ℕ) (k : Kept) (now : ℕ) (f : Frame Bool) (row column : ℕ) (rows : List Bool) → row < ROWS
     → ((q : ℕ) → q < ROWS → has_row rows q ≡ (q == row)) → power p j k now f (column + 1) rows ≡ right p j k now f column row
 unfolding power
 power_of_one p j k now f row column rows less h = rw add-one (one_of (has_row rows) (right p j k now f column) ROWS row less h)
@@ -142,11 +142,11 @@ through_wire net row from to at fed rows columns behind =
 
 -- ---- networks
 
-and_assoc : (p a b : Bool) → ((p && a) && b) ≡ (p && (a && b))
+pub and_assoc : (p a b : Bool) → ((p && a) && b) ≡ (p && (a && b))
 and_assoc true a b = refl
 and_assoc false a b = refl
 
-and_either : (p a b : Bool) → ((p && a) || (p && b)) ≡ (p && (a || b))
+pub and_either : (p a b : Bool) → ((p && a) || (p && b)) ≡ (p && (a || b))
 and_either true a b = refl
 and_either false a b = refl
 
@@ -179,7 +179,7 @@ carries_beside net from one two to first second upper lower join = record {
       ∙ and_either (power_at net k now f from) (first f) (second f);
 }
 
-power_of_either : (p : Drawing) (j : ℕ) (k : Kept) (now : ℕ) (f : Frame Bool) (column : ℕ) (first second rows : List Bool)
+pub power_of_either : (p : Drawing) (j : ℕ) (k : Kept) (now : ℕ) (f : Frame Bool) (column : ℕ) (first second rows : List Bool)
     → ((q : ℕ) → q < ROWS → has_row rows q ≡ (has_row first q || has_row second q))
     → power p j k now f column rows ≡ (power p j k now f column first || power p j k now f column second)
 unfolding power
