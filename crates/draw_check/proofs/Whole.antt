@@ -11,7 +11,7 @@ use Rattle.draw_check.specs.Meaning.{AreSame, IsDrawingOf, with_inputs}
 use Rattle.draw_check.specs.Steps.{Draws}
 use Rattle.draw_check.proofs.Arriving.{evaluates}
 
-given_length : (fs xs vs : List Bool) → length (given fs xs vs) ≡ length vs
+pub given_length : (fs xs vs : List Bool) → length (given fs xs vs) ≡ length vs
 given_length [] xs vs = refl
 given_length (true ∷ fs) [] [] = refl
 given_length (true ∷ fs) (x ∷ xs) [] = refl
@@ -23,7 +23,7 @@ given_length (false ∷ fs) [] (v ∷ vs) = ap suc (given_length fs [] vs)
 given_length (false ∷ fs) (x ∷ xs) (v ∷ vs) = ap suc (given_length fs (x ∷ xs) vs)
 
 -- what they leave at a number rests on what was there
-given_at : (fs xs vs ws : List Bool) (n : ℕ) → n ≤ length vs → n ≤ length ws → ((i : ℕ) → i < n → get_or vs i false ≡ get_or ws i false)
+pub given_at : (fs xs vs ws : List Bool) (n : ℕ) → n ≤ length vs → n ≤ length ws → ((i : ℕ) → i < n → get_or vs i false ≡ get_or ws i false)
     → (i : ℕ) → i < n → get_or (given fs xs vs) i false ≡ get_or (given fs xs ws) i false
 given_at [] xs vs ws n a b same i lt = same i lt
 given_at (f ∷ fs) xs [] ws n a b same i lt = absurd (omega (arith, a, lt))

@@ -21,7 +21,7 @@ fn is_linked_lower(cell: Cell) -> bool
 
 /// Whether the cell below a place is the lower cell of a block and has a left link.
 #[tactic(auto, using(crate::proofs::Lower::linked_below, crate::proofs::Lower::none_below))]
-fn is_linked(program: &Program, rung: usize, place: usize) -> bool
+pub fn is_linked(program: &Program, rung: usize, place: usize) -> bool
     requires rung { rung < program.now.rungs }
     requires place { place < PLACES }
     ensures { result ≡ (diagram_of program.now).linked rung place }

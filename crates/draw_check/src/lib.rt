@@ -10,5 +10,6 @@ mod latch;
 mod plan;
 mod statements;
 
+pub use block::is_linked;
 pub use drawing::is_drawing;
 pub use plan::Plan;

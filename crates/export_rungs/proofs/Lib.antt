@@ -1,0 +1,12 @@
+mod Blocks
+mod By
+mod Entries
+mod Finishing
+mod Going
+mod Latched
+mod Latching
+mod Matched
+mod Onward
+mod Preparing
+mod Sight
+mod Standing

@@ -1,0 +1,5 @@
+pub mod Forms
+pub mod Matched
+pub mod Rungs
+pub mod Standing
+pub mod Steps
