@@ -1,0 +1,4 @@
+pub mod Course
+pub mod Flags
+pub mod Jumps
+pub mod Meaning
