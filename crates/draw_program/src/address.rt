@@ -84,7 +84,7 @@ fn kind_at(letter: u8) -> Option<VarKind>
 }
 
 /// The address that a word spells, and the kind of the variables there.
-pub(crate) fn address_of(word: &[u8]) -> Option<(VarKind, Address)>
+pub fn address_of(word: &[u8]) -> Option<(VarKind, Address)>
     ensures { IfSome result (λ x. IsAddress word.now x.0 x.1) }
 {
     let [b'%', letter, text @ ..] = word else {

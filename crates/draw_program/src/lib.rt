@@ -14,5 +14,6 @@ mod names;
 mod notes;
 mod numbered;
 
+pub use address::address_of;
 pub use drawing::{Drawn, draw};
 pub use fault::DrawFault;

@@ -1,0 +1,14 @@
+//! Ladder programs, exported as Structured Text (IEC 61131-3:2013) each run of which does what a scan of the program does.
+#![tactic(auto)]
+
+mod exporting;
+mod fault;
+mod form;
+mod matching;
+mod naming;
+mod writing;
+
+pub use exporting::is_exported;
+pub use fault::ExportFault;
+pub use form::AddressForm;
+pub use writing::export;
