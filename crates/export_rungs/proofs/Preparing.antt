@@ -1,6 +1,6 @@
 -- Assignments before those of the cells: what variables stand for.
-use Rattle.std.proofs.Common.{◌≡◌, ℕ, ◌<◌, ◌≤◌, All, true, false, List, [], ◌∷◌, ◌++◌, length, get_or, map, refl, ap, subst, ◌∙◌, arith, get_or-set_same}
-use Rattle.std.proofs.lemmas.List.Elements.{All-append, All-nil, All-cons}
+use Rattle.std.proofs.Common.{◌≡◌, ℕ, ◌<◌, ◌≤◌, All, Bool, true, false, List, [], ◌∷◌, ◌++◌, length, get_or, set, map, refl, ap, subst, ◌∙◌, arith, get_or-set_same}
+use Rattle.std.proofs.lemmas.List.Elements.{All-append, All-nil, All-cons, All-head, All-tail}
 use Rattle.diagram_program.specs.declared.gates.Action.{Action}
 use Rattle.diagram_program.specs.Program.{Drawing}
 use Rattle.diagram_declarations.specs.declared.kind.BlockKind.TheVariants.{Ton}
@@ -14,8 +14,8 @@ use Rattle.draw_check.specs.Acted.{acted, acted_from}
 use Rattle.export_power.specs.declared.known.Known.{Known}
 use Rattle.export_power.specs.Sight.{meant}
 use Rattle.export_rungs.specs.Forms.{IsAssignment, Memory}
-use Rattle.export_rungs.specs.Steps.{Comes, base_of}
-use Rattle.export_rungs.specs.Standing.{Means}
+use Rattle.export_rungs.specs.Steps.{Comes, IsBetween, base_of}
+use Rattle.export_rungs.specs.Standing.{IsMeaning}
 use Rattle.export_rungs.proofs.Matched.{at_high}
 use Rattle.export_rungs.proofs.Sight.{IsOther, sees_high}
 
@@ -47,40 +47,57 @@ module _ (d : Drawing) (variables count rung : ℕ) where
       never : false ≡ true → ⊥
       never t = cc
 
-  pub prepared_more : (known : List Known) (done : List Action) (x : Known) (e : Expression) (q : Memory) (list next : StatementList)
-      → base_of d count ≤ x.variable → x.variable < variables → All (IsOther x.variable) known → Means d variables count rung known done e x.meaning
-      → Comes d variables count rung known done list (Assign' x.variable e q next) → Comes d variables count rung (known ++ x ∷ []) done list next
+  -- all that the value of an expression is, in the variable that it is assigned to
+  standing : (known : List Known) (done : List Action) (v : ℕ) (e : Expression) (xs : List Known) → v < variables
+      → All (IsMeaning d variables count rung known done v e) xs → (now : ℕ) (g s : Held) (flags : List Bool) → length flags ≡ count
+      → IsBetween d variables flags now rung known done g s → All (Stands g now (assigned v (value_in s e) s)) xs
+  standing known done v e [] small are now g s flags size between = All-nil (Stands g now (assigned v (value_in s e) s))
+  standing known done v e (x ∷ xs) small are now g s flags size between =
+      let Is : Known → Type 0 = IsMeaning d variables count rung known done v e in
+      let one : Is x = All-head Is x xs are in
+      All-cons (Stands g now (assigned v (value_in s e) s)) x xs
+      (ap (λ i. get_or (set s.values v (value_in s e)) i false) one.0
+      ∙ get_or-set_same s.values v (value_in s e) false (omega (arith, small, between.at.matched.long))
+      ∙ one.1 now g s flags size between)
+      (standing known done v e xs small (All-tail Is x xs are) now g s flags size between)
+
+  high_too : (known : List Known) (done : List Action) (v : ℕ) (e : Expression) (flags : ℕ) (xs : List Known) → base_of d flags ≤ v
+      → All (IsMeaning d variables count rung known done v e) xs → All (High flags) xs
+  high_too known done v e flags [] le are = All-nil (High flags)
+  high_too known done v e flags (x ∷ xs) le are =
+      let Is : Known → Type 0 = IsMeaning d variables count rung known done v e in
+      let one : Is x = All-head Is x xs are in
+      All-cons (High flags) x xs (omega (arith, le, one.0)) (high_too known done v e flags xs le (All-tail Is x xs are))
+
+  pub prepared_more : (known : List Known) (done : List Action) (v : ℕ) (xs : List Known) (e : Expression) (q : Memory) (list next : StatementList)
+      → base_of d count ≤ v → v < variables → All (IsOther v) known → All (IsMeaning d variables count rung known done v e) xs
+      → Comes d variables count rung known done list (Assign' v e q next) → Comes d variables count rung (known ++ xs) done list next
   unfolding run
-  prepared_more known done x e q list next low small others means before = λ now g h flags size at.
+  prepared_more known done v xs e q list next low small others are before = λ now g h flags size at.
       let first = before now g h flags size at in
       let s = first.0 in
       let between = first.1 in
-      let y = value_in s e in
-      let v = x.variable in
-      let after = assigned v y s in
+      let after = assigned v (value_in s e) s in
       let high : base_of d (length flags) ≤ v = omega (arith, low, size) in
-      let sees = sees_high d rung known g.kept now (frame_of g) done v y s (omega (arith, high)) others between.sees in (
+      let sees = sees_high d rung known g.kept now (frame_of g) done v (value_in s e) s (omega (arith, high)) others between.sees in (
         after,
         record {
-          at = at_high d variables flags v y (acted_from d now rung g done g) s high between.at;
+          at = at_high d variables flags v (value_in s e) (acted_from d now rung g done g) s high between.at;
           sees = record {
             values = sees.values;
             ends = sees.ends;
             called = sees.called;
-            stands = All-append (Stands g now after) known (x ∷ []) sees.stands
-                (All-cons (Stands g now after) x []
-                (get_or-set_same s.values v y false (omega (arith, small, between.at.matched.long)) ∙ means now g s flags size between)
-                (All-nil (Stands g now after)));
+            stands = All-append (Stands g now after) known xs sees.stands (standing known done v e xs small are now g s flags size between);
           };
           rests = between.rests;
-          high = All-append (High (length flags)) known (x ∷ []) between.high (All-cons (High (length flags)) x [] high (All-nil (High (length flags))));
+          high = All-append (High (length flags)) known xs between.high (high_too known done v e (length flags) xs high are);
         },
         first.2,
       )
 
-  pub prepared_by : (known : List Known) (done : List Action) (x : Known) (e : Expression) (first list next : StatementList) → base_of d count ≤ x.variable → x.variable < variables
-      → All (IsOther x.variable) known → Means d variables count rung known done e x.meaning → IsAssignment x.variable e next list
-      → Comes d variables count rung known done first list → Comes d variables count rung (known ++ x ∷ []) done first next
-  prepared_by known done x e first list next low small others means begins before =
-      prepared_more known done x e begins.0 first next low small others means
+  pub prepared_by : (known : List Known) (done : List Action) (v : ℕ) (xs : List Known) (e : Expression) (first list next : StatementList) → base_of d count ≤ v → v < variables
+      → All (IsOther v) known → All (IsMeaning d variables count rung known done v e) xs → IsAssignment v e next list
+      → Comes d variables count rung known done first list → Comes d variables count rung (known ++ xs) done first next
+  prepared_by known done v xs e first list next low small others are begins before =
+      prepared_more known done v xs e begins.0 first next low small others are
       (subst (λ (l : StatementList). Comes d variables count rung known done first l) begins.1 before)

@@ -26,3 +26,7 @@ IsEdgeOf d variables count rung known e c = (now : ℕ) (g h : Held) (flags : Li
 -- a variable that is another one
 abbrev pub IsApart : (variable : ℕ) → Known → Type 0
 IsApart variable x = x.variable ≡ variable → ⊥
+
+-- The variable stands for what the expression has the value of.
+abbrev pub IsMeaning : Drawing → (variables count rung : ℕ) → List Known → (done : List Action) → (variable : ℕ) → Expression → Known → Type 0
+IsMeaning d variables count rung known done variable e x = (x.variable ≡ variable) × Means d variables count rung known done e x.meaning

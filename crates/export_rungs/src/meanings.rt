@@ -1,10 +1,11 @@
 //! What an expression stands for before the cells of a rung have done anything.
 
-ghost use Rattle.std.specs.Prelude.{◌≡◌, ◌<◌, ℕ, [], IfSome, IsTrue, List, length};
+ghost use Rattle.std.specs.Prelude.{◌≡◌, ◌<◌, ℕ, [], IfOk, IfSome, IsTrue, List, length};
+ghost use Rattle.std.specs.List.{All};
 ghost use Rattle.diagram_program.specs.declared.geometry.TheConstants.{PLACES};
 ghost use Rattle.diagram_program.specs.Program.{cell_of};
 ghost use Rattle.export_power.specs.declared.known.Meaning.TheVariants as meaning;
-ghost use Rattle.export_rungs.specs.Standing.{IsEdgeOf, Means};
+ghost use Rattle.export_rungs.specs.Standing.{IsEdgeOf, IsMeaning, Means};
 
 use crate::cells::{begins, variable_of};
 use crate::forms::{falling_contact, rising_contact};
@@ -13,8 +14,9 @@ use crate::rung::Rung;
 use diagram_program::gates::Action;
 use diagram_program::geometry::{PLACES, ROWS};
 use diagram_program::{Cell, Operand};
-use export_power::{Meaning, Network, ends_before, is_power};
+use export_power::{Known, Meaning, Network, ends_before, is_power};
 use st_expression::Expression;
+use std::alloc::{AllocError, Global};
 
 /// The operand of a contact that an expression is.
 fn operand_of(expression: &Expression) -> Option<Operand> {
@@ -104,18 +106,6 @@ fn cell_there(at: Rung<'_>, place: usize) -> Cell
     at.scan.program.cell(at.rung, place % ROWS, place / ROWS)
 }
 
-/// The right ends of cells whose power an expression has the value of.
-fn power_of(at: Rung<'_>, done: &[Action], expression: &Expression) -> Option<Meaning>
-    ensures { IfSome result (λ m. Means at.entry.scan.program.now at.entry.scan.variables at.entry.scan.jumps at.entry.rung at.entry.known.now done.now expression.now m) }
-{
-    for place in 0..PLACES {
-        if let Some(found) = power_at(at, done, expression, place) {
-            return Some(found);
-        }
-    }
-    None
-}
-
 /// The power that leads to a place, if an expression has its value.
 fn power_at(at: Rung<'_>, done: &[Action], expression: &Expression, place: usize) -> Option<Meaning>
     requires { place < PLACES }
@@ -135,18 +125,42 @@ fn power_at(at: Rung<'_>, done: &[Action], expression: &Expression, place: usize
     }
 }
 
-/// What an expression stands for where these cells are done: an operand, an edge contact, if no cell is done, or the power at the left of a
-/// place.
-pub(crate) fn meaning_of(at: Rung<'_>, done: &[Action], expression: &Expression) -> Option<Meaning>
+/// The operand that an expression stands for where these cells are done, or the edge contact, if no cell is done.
+fn operand_or_edge(at: Rung<'_>, done: &[Action], expression: &Expression) -> Option<Meaning>
     ensures { IfSome result (λ m. Means at.entry.scan.program.now at.entry.scan.variables at.entry.scan.jumps at.entry.rung at.entry.known.now done.now expression.now m) }
 {
     if let Some(found) = start_of(at, done, expression) {
         return Some(found);
     }
     if let [] = done {
-        if let Some(found) = closed_of(at, expression) {
-            return Some(found);
+        return closed_of(at, expression);
+    }
+    None
+}
+
+/// All that a variable stands for to which an expression is assigned where these cells are done: an operand or an edge contact, and the
+/// power at the left of each place that has this value.
+///
+/// # Errors
+///
+/// `AllocError` when out of memory.
+pub(crate) fn meanings_of(
+    alloc: Global,
+    at: Rung<'_>,
+    done: &[Action],
+    variable: usize,
+    expression: &Expression,
+) -> Result<Vec<Known>, AllocError>
+    ensures { IfOk result (λ xs. All (IsMeaning at.entry.scan.program.now at.entry.scan.variables at.entry.scan.jumps at.entry.rung at.entry.known.now done.now variable expression.now) xs.items) }
+{
+    let mut found = Vec::new(alloc);
+    if let Some(meaning) = operand_or_edge(at, done, expression) {
+        found.push(Known { variable, meaning })?;
+    }
+    for place in 0..PLACES {
+        if let Some(meaning) = power_at(at, done, expression, place) {
+            found.push(Known { variable, meaning })?;
         }
     }
-    power_of(at, done, expression)
+    Ok(found)
 }

@@ -13,7 +13,7 @@ use crate::edges::behind_edge_coil;
 use crate::jumps::behind_jump;
 use crate::latch::behind_latches;
 use crate::lists::assignment_of;
-use crate::meanings::meaning_of;
+use crate::meanings::meanings_of;
 use crate::rung::Rung;
 use crate::scan::Scan;
 use diagram_program::gates::Action;
@@ -55,6 +55,7 @@ fn is_free(scan: Scan<'_>, known: &[Known], variable: usize) -> bool
 
 /// The statements behind those that give variables what they stand for, where these cells are done; these variables are added to the list.
 fn prepared<'a>(
+    alloc: Global,
     scan: Scan<'_>,
     rung: usize,
     known: &mut Vec<Known>,
@@ -73,11 +74,12 @@ fn prepared<'a>(
         return Ok(list);
     }
     let at = Rung { scan, rung, known };
-    let Some(meaning) = meaning_of(at, done, value) else {
+    let meanings = meanings_of(alloc, at, done, variable, value)?;
+    if meanings.is_empty() {
         return Ok(list);
-    };
-    known.push(Known { variable, meaning })?;
-    prepared(scan, rung, known, done, next)
+    }
+    known.extend_from_slice(&meanings)?;
+    prepared(alloc, scan, rung, known, done, next)
 }
 
 /// Whether a cell is a set or a reset coil.
@@ -130,6 +132,7 @@ fn behind_next<'a>(
 
 /// The statements behind those of all cells, and behind those that give variables what they stand for; these variables are added to the list.
 fn behind_all<'a>(
+    alloc: Global,
     scan: Scan<'_>,
     rung: usize,
     known: &mut Vec<Known>,
@@ -147,7 +150,7 @@ fn behind_all<'a>(
     if done >= actions.len() && scan.program.jump(rung).is_none() {
         return Ok(Some(list));
     }
-    let ready = prepared(scan, rung, known, &actions[..done], list)?;
+    let ready = prepared(alloc, scan, rung, known, &actions[..done], list)?;
     if done >= actions.len() {
         return Ok(Some(ready));
     }
@@ -155,7 +158,7 @@ fn behind_all<'a>(
     let Some((after, next)) = behind_next(at, actions, done, ready) else {
         return Ok(None);
     };
-    behind_all(scan, rung, known, after, next)
+    behind_all(alloc, scan, rung, known, after, next)
 }
 
 /// The statements behind those that do what a rung does, whose jump has this number among the jumps; none where they do something else, or
@@ -181,7 +184,7 @@ pub fn behind_rung<'a>(
     ensures { IfOk result (λ o. IfSome o (λ rest. Does scan.entry.program.now scan.entry.variables scan.entry.jumps rung number list.now rest.now)) }
 {
     let mut known = Vec::new(alloc);
-    let Some(ready) = behind_all(scan, rung, &mut known, 0, list)? else {
+    let Some(ready) = behind_all(alloc, scan, rung, &mut known, 0, list)? else {
         return Ok(None);
     };
     let at = Rung {

@@ -6,7 +6,7 @@ use export_text::Form;
 use std::alloc::Global;
 
 /// Each form of a rung: contacts, coils and blocks of all kinds, edges of what is written in the rung, outputs before and behind their block,
-/// coils in series, a bridge, jumps that overlap, a jump to the next rung, and returns.
+/// coils in series, a bridge, two branches of one look, jumps that overlap, a jump to the next rung, and returns.
 const FORMS: &[u8] = b"VAR
   A AT %IX0 : BOOL;
   B AT %IX9 : BOOL;
@@ -62,6 +62,11 @@ END_VAR
 |----| |------|S1 SR Q1|--|IN TOF Q|--|S  RS Q1|
 |     B
 |----| |----  |R       |              |R1      |
+
+|     A           B           Y
+|----| |---------| |---------(P)----
+|     A           B           Z
+|----| |---------| |---------(P)----
 
 |                 Y
 |-----------+----(P)----
