@@ -31,7 +31,7 @@ _ladder() {
     local options file='' coil='' every='' place=0 number
     COMPREPLY=()
     if ((COMP_CWORD == 1)); then
-        mapfile -t COMPREPLY < <(compgen -W 'check causes show sim uses never reach diff draw import explain help --help' -- "$word")
+        mapfile -t COMPREPLY < <(compgen -W 'check causes show sim uses never reach diff draw export import explain help --help' -- "$word")
         return
     fi
     case $subcommand in
@@ -41,13 +41,14 @@ _ladder() {
         check) options='--warn --aliases --why --help' ;;
         uses) options='--aliases --why --help' ;;
         draw) options='--why --help' ;;
+        export) options='--st --name --bits --codesys --aliases --why --help' ;;
         import) options='--open --control --hal --why --help' ;;
         never) options='--state --off --pairs --quiet --aliases --why --help' ;;
         reach) options='--state --at --every --scans --states --both --gap --progress --why --help' ;;
         diff) options='--state --new-state --at --after --upto --limit --scans --for --every --grouped --terms --st --order --looks --reachable --runs --states --save --all-inputs --progress --quiet --aliases --why --help' ;;
         explain) options='--help' ;;
         help)
-            mapfile -t COMPREPLY < <(compgen -W 'check causes show sim uses never reach diff draw import explain' -- "$word")
+            mapfile -t COMPREPLY < <(compgen -W 'check causes show sim uses never reach diff draw export import explain' -- "$word")
             return
             ;;
     esac
@@ -58,7 +59,7 @@ _ladder() {
                 ((number++))
                 every=1
                 ;;
-            --state | --new-state | --at | --after | --upto | --limit | --scans | --for | --every | --looks | --order | --number | --stimulus | --coil | --save | --watch | --expect | --states | --both | --gap | --control | --hal) ((number++)) ;;
+            --state | --new-state | --at | --after | --upto | --limit | --scans | --for | --every | --looks | --order | --number | --stimulus | --coil | --save | --watch | --expect | --states | --both | --gap | --control | --hal | --name) ((number++)) ;;
             -*) ;;
             *)
                 ((place++))
@@ -70,7 +71,7 @@ _ladder() {
     case $before in
         --save) if [[ $subcommand == diff ]]; then mapfile -t COMPREPLY < <(compgen -d -- "$word"); else mapfile -t COMPREPLY < <(compgen -f -- "$word"); fi ;;
         --state | --new-state | --stimulus | --expect | --hal) mapfile -t COMPREPLY < <(compgen -f -- "$word") ;;
-        --at | --after | --upto | --limit | --scans | --for | --every | --looks | --number | --states | --gap) ;;
+        --at | --after | --upto | --limit | --scans | --for | --every | --looks | --number | --states | --gap | --name) ;;
         --all-coils) mapfile -t COMPREPLY < <(compgen -d -- "$word") ;;
         --order) mapfile -t COMPREPLY < <(compgen -W 'auto given' -- "$word") ;;
         --control) mapfile -t COMPREPLY < <(compgen -W 'on' -- "$word") ;;

@@ -7,7 +7,7 @@ function __ladder_places
     for word in $words
         if test $due = 1
             set due 0
-        else if contains -- $word --state --new-state --at --after --upto --limit --scans --for --every --looks --order --number --stimulus --coil --all-coils --save --watch --expect --states --both --gap --control --hal
+        else if contains -- $word --state --new-state --at --after --upto --limit --scans --for --every --looks --order --number --stimulus --coil --all-coils --save --watch --expect --states --both --gap --control --hal --name
             set due 1
         else if not string match -q -- '-*' $word
             echo $word
@@ -72,14 +72,19 @@ complete -c ladder -n 'test (count (__ladder_places)) = 0' -a uses -d 'Print whe
 complete -c ladder -n 'test (count (__ladder_places)) = 0' -a reach -d 'Write a run that switches a coil ON, or say that there is none'
 complete -c ladder -n 'test (count (__ladder_places)) = 0' -a diff -d 'Say what a change of a program changes'
 complete -c ladder -n 'test (count (__ladder_places)) = 0' -a draw -d 'Draw a program in Structured Text'
+complete -c ladder -n 'test (count (__ladder_places)) = 0' -a export -d 'Write a program in Structured Text'
 complete -c ladder -n 'test (count (__ladder_places)) = 0' -a import -d 'Write the program text of a ClassicLadder project'
 complete -c ladder -n 'test (count (__ladder_places)) = 0' -a never -d 'Print what can never come ON'
 complete -c ladder -n 'test (count (__ladder_places)) = 0' -a explain -d 'Say what a fault means'
 complete -c ladder -n 'test (count (__ladder_places)) = 0' -a help -d 'Print help'
-complete -c ladder -n '__ladder_at help 1' -a 'check causes show sim uses never reach diff draw import explain'
+complete -c ladder -n '__ladder_at help 1' -a 'check causes show sim uses never reach diff draw export import explain'
 
-complete -c ladder -n '__ladder_at check,causes,show,sim,uses,never,reach,diff,draw,import more 0' -l why -d 'Faults are explained'
-complete -c ladder -n '__ladder_at check,causes,show,sim,uses,never,diff more 0' -l aliases -d 'Aliases in place of names'
+complete -c ladder -n '__ladder_at check,causes,show,sim,uses,never,reach,diff,draw,export,import more 0' -l why -d 'Faults are explained'
+complete -c ladder -n '__ladder_at check,causes,show,sim,uses,never,diff,export more 0' -l aliases -d 'Aliases in place of names'
+complete -c ladder -n '__ladder_at export more 0' -l st -d 'Structured Text'
+complete -c ladder -n '__ladder_at export more 0' -l name -x -d 'The name of the program'
+complete -c ladder -n '__ladder_at export more 0' -l bits -d 'Addresses by byte and bit'
+complete -c ladder -n '__ladder_at export more 0' -l codesys -d 'Inputs of bistables as CODESYS calls them'
 complete -c ladder -n '__ladder_at check more 0' -l warn -d 'What is most likely not meant'
 complete -c ladder -n '__ladder_at causes,show more 0' -l all-inputs -d 'All inputs, in order of declaration'
 complete -c ladder -n '__ladder_at causes more 0' -l all-coils -x -a '(__fish_complete_directories)' -d 'Each coil, a file for each in this folder'
@@ -148,7 +153,7 @@ complete -c ladder -n '__ladder_at sim more 0' -l progress -d 'Tell how far the 
 complete -c ladder -n '__ladder_at sim more 0' -l vcd -d 'A waveform in place of the trace'
 complete -c ladder -n '__ladder_at sim more 0' -l save -r -F -d 'The file that gets the state after the last scan'
 
-complete -c ladder -n '__ladder_at check,causes,show,sim,uses,never,reach,diff,draw,import 1' -F
+complete -c ladder -n '__ladder_at check,causes,show,sim,uses,never,reach,diff,draw,export,import 1' -F
 complete -c ladder -n '__ladder_at sim,diff 2' -F
 complete -c ladder -n '__ladder_at explain more 0' -a '(__ladder_codes)'
 complete -c ladder -n '__ladder_at causes 2; and not __ladder_each' -a '(__ladder_coils)'

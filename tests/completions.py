@@ -13,7 +13,7 @@ import tempfile
 
 ROOT = pathlib.Path(__file__).resolve().parent.parent
 FOLDER = ROOT / "completions"
-SUBCOMMANDS = ["causes", "check", "diff", "draw", "explain", "import", "never", "reach", "show", "sim", "uses"]
+SUBCOMMANDS = ["causes", "check", "diff", "draw", "explain", "export", "import", "never", "reach", "show", "sim", "uses"]
 CIRCUIT = ROOT / "examples/emergency_stop/machine.ld"
 TIMERS = ROOT / "examples/star_delta/star_delta.ld"
 BISTABLE = ROOT / "examples/tank_two_pumps/tank.ld"
@@ -54,6 +54,8 @@ LINES = [
     (["diff", "machine.ld", "machine.ld"], "", COILS),
     (["diff", "--new-state", "s.csv", "machine.ld", "machine.ld", "Motor"], "", INPUTS),
     (["import", "--control"], "", ["on"]),
+    (["export", "--st", "--name"], "", []),
+    (["export", "--st"], "mach", ["machine.ld"]),
     (["help"], "s", ["show", "sim"]),
     (["explain"], "X", [f"X{number}" for number in range(1, 8)]),
     (["explain", "G4"], "us", ["usage"]),

@@ -77,6 +77,12 @@ def rungs(count):
     return "|\n\n" * int(count)
 
 
+def coils(count):
+    """A number of rungs, each with seven coils behind a contact."""
+    names = "".join(f" {name:^11}" for name in "BCDEFGH")
+    return f"|{'A':^11}{names.rstrip()}\n|----| |----{'-----( )----' * 7}\n\n" * int(count)
+
+
 def assignments(count):
     """A number of assignments, each of another expression than the one before it."""
     return "".join(f"Y := {'AB'[number % 2]};\n" for number in range(int(count)))
@@ -87,7 +93,7 @@ def line(words):
     return f"{words}\n"
 
 
-MAKERS = (spaces, filled_motor, inputs, variables, timers, rungs, assignments, line)
+MAKERS = (spaces, filled_motor, inputs, variables, timers, rungs, coils, assignments, line)
 GENERATORS = {maker.__name__: maker for maker in MAKERS}
 
 

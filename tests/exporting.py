@@ -4,7 +4,7 @@
 Each example (`examples/*/*.ld`) and each of so many random drawings (200) is exported, in a form that is chosen at random. The text is read here,
 and its statements are run one after the other (`statements.py`): in 40 scans of a random stimulus each variable and each output of a block must
 have the value that `ladder sim` gives it by the drawing. The text is drawn again too (`ladder draw`): that must be a program (`ladder check`)
-and have the same scans, unless it would have too many rungs (T9).
+and have the same scans, unless it would have too many rungs (T9). A text that would be too large (E3) is passed over.
 
 Where the environment has EXPORT, these words are the command for `PROGRAM export --st`.
 """
@@ -31,7 +31,7 @@ TOKEN = re.compile(r"\s*(?:\(\*.*?\*\)\s*)*(:=|[A-Za-z_]\w*\.Q1?|T#\d+(?:ms|[dhm
 UNITS = {"ms": 1, "s": 1000, "m": 60_000, "h": 3_600_000, "d": 86_400_000}
 SPELLED = {"SR": ("SET1", "RESET"), "RS": ("SET", "RESET1")}
 ALIAS = re.compile(r"^ *(\w+) \(\* (\S+) \*\)", re.M)
-FORMS = [[], [], [], ["--bits"], ["--spelled"], ["--aliases"]]
+FORMS = [[], [], [], ["--bits"], ["--codesys"], ["--aliases"]]
 
 
 class Text:
@@ -167,6 +167,8 @@ def asked(program, folder, *words):
 def exported(program, folder, form):
     command = shlex.split(os.environ["EXPORT"]) if "EXPORT" in os.environ else [program, "export", "--st"]
     status, text, fault = asked(command, folder, *form, "program.ld")
+    if fault == "fault E3\n":
+        return None
     assert status == 0 and text and not fault, f"{form}{fault}"
     return text
 
@@ -216,7 +218,7 @@ def drawn_again(program, folder, rows, records, inputs):
     """What is wrong with the drawing of the text, or whether it is too large."""
     status, again, fault = asked([program], folder, "draw", "made.st")
     if status and fault.startswith("fault T9"):
-        return "too large"
+        return "too large to be drawn again"
     assert status == 0, fault
     (folder / "again.ld").write_text(again)
     status, _, fault = asked([program], folder, "check", "again.ld")
@@ -236,6 +238,8 @@ def tried(program, source, seed):
         folder = pathlib.Path(name)
         (folder / "program.ld").write_text(source)
         text = exported(program, folder, form)
+        if text is None:
+            return "too large"
         (folder / "made.st").write_text(text)
         try:
             assert max(map(len, text.splitlines())) <= WIDEST, "a line is too wide"

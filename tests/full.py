@@ -34,6 +34,8 @@ REQUESTS = (
     (("uses", "motor.ld"), 0),
     (("draw", "motor.st"), 0),
     (("draw", "--why", "wrong.st"), 1),
+    (("export", "--st", "motor.ld"), 0),
+    (("export", "--st", "--name", "Motor", "--why", "motor.ld"), 1),
     (("causes", *LIST), 0),
     (("causes", "--after", "0", *LIST), 0),
     (("causes", "--scans", "3", *LIST), 0),

@@ -76,6 +76,7 @@ REQUESTS = (
     (("reach", "--every", "100", "rhythm.ld", "Y"), ("fault V9\n", "fault X7\n")),
     (("import", "lamp.clp"), ("fault X7\n",)),
     (("draw", "motor.st"), ("fault X7\n",)),
+    (("export", "--st", "motor.ld"), ("fault V9\n", "fault X7\n")),
     (("--help",), ("fault X7\n",)),
 )
 Ending = collections.namedtuple("Ending", "out err status saved")

@@ -19,6 +19,7 @@ SOURCE = ROOT / "crates" / "cli_options" / "src"
 FILES = {"Declarations": "declarations", "The drawing": "drawing", "Questions to `causes`": "questions",
          "Files, arguments and writers": "files", "Projects of ClassicLadder": "projects",
          "Programs in Structured Text": "statements",
+         "Exports": "exports",
          "Words": "words"}
 
 

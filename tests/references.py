@@ -30,7 +30,7 @@ CRATE_NAMES = {path.name for path in CRATES.iterdir()}
 FOLDERS = ("tests", "docs", "bench", "man", "examples", "completions", "share", "tools", "bin")
 # words that are in no file of the tree: of the toolchain, of examples of changes, and files at the top
 OTHER = {"Makefile", "MissingCases", "RETAIN", "IsEmpty", "diff"}
-COMMANDS = {"causes", "diff", "never", "reach", "show", "sim", "uses", "check", "import", "explain"}
+COMMANDS = {"causes", "diff", "never", "reach", "show", "sim", "uses", "check", "draw", "export", "import", "explain"}
 WORD = re.compile(r"[A-Za-z_][A-Za-z0-9_]{2,}")
 SPAN = r"`[^`]+`"
 SPANS = rf"{SPAN}(?:(?:,| and|, and|,? or) {SPAN})*"

@@ -22,7 +22,7 @@ VALUES = {"at": "5", "after": "0", "upto": "1", "limit": "1", "scans": "2", "for
           "state": "state.csv", "new-state": "state.csv", "all-coils": "folder", "save": "saved", "number": "0", "stimulus": "stimulus.csv",
           "watch": "B", "gap": "5", "both": "Y", "hal": "x.hal"}
 PLACES = {"causes": ["p.ld"], "diff": ["p.ld", "q.ld"], "show": ["p.ld"], "sim": ["p.ld", "stimulus.csv"], "never": ["p.ld"], "reach": ["p.ld", "Y"],
-          "import": ["x.clp"]}
+          "export": ["p.ld"], "import": ["x.clp"]}
 PROGRAM_TEXT = """VAR
   A AT %IX0 : BOOL;
   B AT %IX1 : BOOL;
@@ -82,7 +82,7 @@ def is_there(term, words, places, subcommand):
     """Whether a term is among options, which have values, and words that are known by their place."""
     kind, name, value = term
     if kind == "Place":
-        first = {"causes": {"file": 0, "coil": 1, "inputs": 2}, "diff": {"coil": 2, "inputs": 3}, "show": {"inputs": 1}}[subcommand]
+        first = {"causes": {"file": 0, "coil": 1, "inputs": 2}, "diff": {"coil": 2, "inputs": 3}, "show": {"inputs": 1}, "export": {"file": 0}}[subcommand]
         return len(places) > first[name]
     return name in words and (kind != "Value" or words[name] == value)
 

@@ -162,7 +162,7 @@ def stimulus_from_a_pipe(program, folder):
         return differences(run(program, ["sim", "motor.ld", "-"], folder, stdin=stream), (TRACE, b"", 0))
 
 
-OF_PROGRAMS = ("check", "causes", "show", "sim", "uses", "never", "diff")
+OF_PROGRAMS = ("check", "causes", "show", "sim", "uses", "never", "diff", "export")
 WITHOUT_ALIASES = ("reach", "import", "explain")
 # the files that the examples of help name
 PLANT = b"""VAR

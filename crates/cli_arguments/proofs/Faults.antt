@@ -20,6 +20,7 @@ use Rattle.cli_arguments.specs.declared.request.Grouping.{Grouping}
 use Rattle.cli_arguments.specs.declared.request.ShowRequest.{ShowRequest}
 use Rattle.cli_arguments.specs.declared.request.FilmRequest.{FilmRequest}
 use Rattle.cli_arguments.specs.declared.request.ExpectRequest.{ExpectRequest}
+use Rattle.cli_arguments.specs.declared.request.ExportRequest.{ExportRequest}
 use Rattle.cli_arguments.specs.declared.request.SimRequest.{SimRequest}
 use Rattle.cli_arguments.specs.declared.request.WatchRequest.{WatchRequest}
 use Rattle.cli_arguments.specs.declared.request.WavesRequest.{WavesRequest}
@@ -31,7 +32,7 @@ use Rattle.cli_arguments.specs.declared.request.Pace.{Pace}
 use Rattle.cli_arguments.specs.declared.request.Pace.TheVariants.{AnyMoments, Every}
 use Rattle.cli_arguments.specs.declared.request.ReachRequest.{ReachRequest}
 use Rattle.cli_arguments.specs.declared.lasting.Lasting.TheVariants.{Count, Until}
-use Rattle.cli_arguments.specs.declared.request.Request.TheVariants.{Causes, Check, Draw, Expect, Film, Groups, Held, Import, Never, Possible, Progress, Reach, Relevant, Show, Sim, Uses, Watch, Waves}
+use Rattle.cli_arguments.specs.declared.request.Request.TheVariants.{Causes, Check, Draw, Expect, Export, Film, Groups, Held, Import, Never, Possible, Progress, Reach, Relevant, Show, Sim, Uses, Watch, Waves}
 use Rattle.cli_arguments.specs.declared.request.WordFault.{WordFault}
 use Rattle.cli_arguments.specs.declared.request.WordFault.TheVariants.{Broken, Help, Memory, Mistake, NoCode, Usage}
 use Rattle.cli_arguments.specs.declared.request.Task.TheVariants.{Compare, Explain, Judge, JudgeRuns, Perform, PerformAll}
@@ -79,7 +80,8 @@ module _ (name : List ℕ) (rows : List Row)
     (never : name ≡ codes "never" → (r : NeverRequest) → Asks name rows (Never r) → ⊥)
     (reach : name ≡ codes "reach" → (r : ReachRequest) → Asks name rows (Reach r) → ⊥)
     (import : name ≡ codes "import" → (opened control_on : Bool) (file : String Global) (hal : Option (String Global)) → Asks name rows (Import opened control_on file hal) → ⊥)
-    (draw : name ≡ codes "draw" → (file : String Global) → Asks name rows (Draw file) → ⊥) where
+    (draw : name ≡ codes "draw" → (file : String Global) → Asks name rows (Draw file) → ⊥)
+    (export : name ≡ codes "export" → (r : ExportRequest) → Asks name rows (Export r) → ⊥) where
   by_subcommand : AsksNone name rows
   by_subcommand (Check file warns) h = check h.0 file warns h
   by_subcommand (Causes list after upto) h = (causes h.0).0 list after upto h
@@ -99,11 +101,12 @@ module _ (name : List ℕ) (rows : List Row)
   by_subcommand (Reach r) h = reach h.0 r h
   by_subcommand (Import opened control_on file hal) h = import h.0 opened control_on file hal h
   by_subcommand (Draw file) h = draw h.0 file h
+  by_subcommand (Export r) h = export h.0 r h
 
 -- The subcommand that explains makes no request.
 explains_alone : (rows : List Row) → AsksNone (codes "explain") rows
 explains_alone rows = by_subcommand (codes "explain") rows (apart (codes "explain") (codes "check") refl) (apart (codes "explain") (codes "causes") refl) (apart (codes "explain") (codes "show") refl)
-    (apart (codes "explain") (codes "sim") refl) (apart (codes "explain") (codes "uses") refl) (apart (codes "explain") (codes "never") refl) (apart (codes "explain") (codes "reach") refl) (apart (codes "explain") (codes "import") refl) (apart (codes "explain") (codes "draw") refl)
+    (apart (codes "explain") (codes "sim") refl) (apart (codes "explain") (codes "uses") refl) (apart (codes "explain") (codes "never") refl) (apart (codes "explain") (codes "reach") refl) (apart (codes "explain") (codes "import") refl) (apart (codes "explain") (codes "draw") refl) (apart (codes "explain") (codes "export") refl)
 
 abbrev pub all_codes : List (String Global) → Bool
 all_codes names = list_all (λ name. is_fault_code (string_bytes name)) names
@@ -127,7 +130,7 @@ no_pages rows names given none (Explain other) h =
 
 pub no_check : (rows : List Row) → first_of (codes "file") rows ≡ None → AsksNone (codes "check") rows
 no_check rows none = by_subcommand (codes "check") rows (λ _ file warns h. let some = h.1 in cc) (apart (codes "check") (codes "causes") refl) (apart (codes "check") (codes "show") refl)
-    (apart (codes "check") (codes "sim") refl) (apart (codes "check") (codes "uses") refl) (apart (codes "check") (codes "never") refl) (apart (codes "check") (codes "reach") refl) (apart (codes "check") (codes "import") refl) (apart (codes "check") (codes "draw") refl)
+    (apart (codes "check") (codes "sim") refl) (apart (codes "check") (codes "uses") refl) (apart (codes "check") (codes "never") refl) (apart (codes "check") (codes "reach") refl) (apart (codes "check") (codes "import") refl) (apart (codes "check") (codes "draw") refl) (apart (codes "check") (codes "export") refl)
 
 pub only_causes : (rows : List Row)
     → ((list : ListRequest) (after upto : Option ℕ) → NamesCauses rows list after upto → ⊥)
@@ -139,7 +142,7 @@ pub only_causes : (rows : List Row)
 only_causes rows causes held groups possible relevant =
     by_subcommand (codes "causes") rows (apart (codes "causes") (codes "check") refl)
     (λ _. ((λ list after upto h. causes list after upto h.1), (λ list after upto h. causes list after upto h.1), held, groups, possible, relevant))
-    (apart (codes "causes") (codes "show") refl) (apart (codes "causes") (codes "sim") refl) (apart (codes "causes") (codes "uses") refl) (apart (codes "causes") (codes "never") refl) (apart (codes "causes") (codes "reach") refl) (apart (codes "causes") (codes "import") refl) (apart (codes "causes") (codes "draw") refl)
+    (apart (codes "causes") (codes "show") refl) (apart (codes "causes") (codes "sim") refl) (apart (codes "causes") (codes "uses") refl) (apart (codes "causes") (codes "never") refl) (apart (codes "causes") (codes "reach") refl) (apart (codes "causes") (codes "import") refl) (apart (codes "causes") (codes "draw") refl) (apart (codes "causes") (codes "export") refl)
 
 -- What some state switches on is asked for by a flag, and the other lists without it.
 only_possible : (rows : List Row) → HasFlag (codes "any") rows → ((r : PossibleRequest) → Asks (codes "causes") rows (Possible r) → ⊥)
@@ -169,7 +172,7 @@ pub only_show : (rows : List Row)
     → AsksNone (codes "show") rows
 only_show rows show film =
     by_subcommand (codes "show") rows (apart (codes "show") (codes "check") refl) (apart (codes "show") (codes "causes") refl) (λ _. (show, film))
-    (apart (codes "show") (codes "sim") refl) (apart (codes "show") (codes "uses") refl) (apart (codes "show") (codes "never") refl) (apart (codes "show") (codes "reach") refl) (apart (codes "show") (codes "import") refl) (apart (codes "show") (codes "draw") refl)
+    (apart (codes "show") (codes "sim") refl) (apart (codes "show") (codes "uses") refl) (apart (codes "show") (codes "never") refl) (apart (codes "show") (codes "reach") refl) (apart (codes "show") (codes "import") refl) (apart (codes "show") (codes "draw") refl) (apart (codes "show") (codes "export") refl)
 
 pub only_sim : (rows : List Row)
     → ((r : SimRequest) → Asks (codes "sim") rows (Sim r) → ⊥)
@@ -179,24 +182,36 @@ pub only_sim : (rows : List Row)
     → AsksNone (codes "sim") rows
 only_sim rows sim watch expect waves =
     by_subcommand (codes "sim") rows (apart (codes "sim") (codes "check") refl) (apart (codes "sim") (codes "causes") refl) (apart (codes "sim") (codes "show") refl)
-    (λ _. (sim, watch, expect, waves)) (apart (codes "sim") (codes "uses") refl) (apart (codes "sim") (codes "never") refl) (apart (codes "sim") (codes "reach") refl) (apart (codes "sim") (codes "import") refl) (apart (codes "sim") (codes "draw") refl)
+    (λ _. (sim, watch, expect, waves)) (apart (codes "sim") (codes "uses") refl) (apart (codes "sim") (codes "never") refl) (apart (codes "sim") (codes "reach") refl) (apart (codes "sim") (codes "import") refl) (apart (codes "sim") (codes "draw") refl) (apart (codes "sim") (codes "export") refl)
 
 pub no_uses : (rows : List Row) → first_of (codes "file") rows ≡ None → AsksNone (codes "uses") rows
 no_uses rows none =
     by_subcommand (codes "uses") rows (apart (codes "uses") (codes "check") refl) (apart (codes "uses") (codes "causes") refl) (apart (codes "uses") (codes "show") refl) (apart (codes "uses") (codes "sim") refl)
-    (λ _ file h. let some = h.1 in cc) (apart (codes "uses") (codes "never") refl) (apart (codes "uses") (codes "reach") refl) (apart (codes "uses") (codes "import") refl) (apart (codes "uses") (codes "draw") refl)
+    (λ _ file h. let some = h.1 in cc) (apart (codes "uses") (codes "never") refl) (apart (codes "uses") (codes "reach") refl) (apart (codes "uses") (codes "import") refl) (apart (codes "uses") (codes "draw") refl) (apart (codes "uses") (codes "export") refl)
 
 pub no_draw : (rows : List Row) → first_of (codes "file") rows ≡ None → AsksNone (codes "draw") rows
 no_draw rows none =
     by_subcommand (codes "draw") rows (apart (codes "draw") (codes "check") refl) (apart (codes "draw") (codes "causes") refl) (apart (codes "draw") (codes "show") refl) (apart (codes "draw") (codes "sim") refl)
-    (apart (codes "draw") (codes "uses") refl) (apart (codes "draw") (codes "never") refl) (apart (codes "draw") (codes "reach") refl) (apart (codes "draw") (codes "import") refl) (λ _ file h. let some = h.1 in cc)
+    (apart (codes "draw") (codes "uses") refl) (apart (codes "draw") (codes "never") refl) (apart (codes "draw") (codes "reach") refl) (apart (codes "draw") (codes "import") refl) (λ _ file h. let some = h.1 in cc) (apart (codes "draw") (codes "export") refl)
+
+only_export : (rows : List Row) → ((r : ExportRequest) → Asks (codes "export") rows (Export r) → ⊥) → AsksNone (codes "export") rows
+only_export rows export =
+    by_subcommand (codes "export") rows (apart (codes "export") (codes "check") refl) (apart (codes "export") (codes "causes") refl) (apart (codes "export") (codes "show") refl) (apart (codes "export") (codes "sim") refl)
+    (apart (codes "export") (codes "uses") refl) (apart (codes "export") (codes "never") refl) (apart (codes "export") (codes "reach") refl) (apart (codes "export") (codes "import") refl) (apart (codes "export") (codes "draw") refl) (λ _. export)
+
+-- The language is named.
+pub no_language : (rows : List Row) → (HasFlag (codes "st") rows → ⊥) → AsksNone (codes "export") rows
+no_language rows none = only_export rows (λ r h. none h.1)
+
+pub no_export : (rows : List Row) → first_of (codes "file") rows ≡ None → AsksNone (codes "export") rows
+no_export rows none = only_export rows (λ r h. let some = h.5 in cc)
 
 only_import : (rows : List Row)
     → ((opened control_on : Bool) (file : String Global) (hal : Option (String Global)) → Asks (codes "import") rows (Import opened control_on file hal) → ⊥)
     → AsksNone (codes "import") rows
 only_import rows import =
     by_subcommand (codes "import") rows (apart (codes "import") (codes "check") refl) (apart (codes "import") (codes "causes") refl) (apart (codes "import") (codes "show") refl)
-    (apart (codes "import") (codes "sim") refl) (apart (codes "import") (codes "uses") refl) (apart (codes "import") (codes "never") refl) (apart (codes "import") (codes "reach") refl) (λ _. import) (apart (codes "import") (codes "draw") refl)
+    (apart (codes "import") (codes "sim") refl) (apart (codes "import") (codes "uses") refl) (apart (codes "import") (codes "never") refl) (apart (codes "import") (codes "reach") refl) (λ _. import) (apart (codes "import") (codes "draw") refl) (apart (codes "import") (codes "export") refl)
 
 pub no_import : (rows : List Row) → first_of (codes "file") rows ≡ None → AsksNone (codes "import") rows
 no_import rows none = only_import rows (λ opened control_on file hal h. let some = h.3 in cc)
@@ -214,7 +229,7 @@ pub only_never : (rows : List Row)
     → AsksNone (codes "never") rows
 only_never rows never =
     by_subcommand (codes "never") rows (apart (codes "never") (codes "check") refl) (apart (codes "never") (codes "causes") refl) (apart (codes "never") (codes "show") refl)
-    (apart (codes "never") (codes "sim") refl) (apart (codes "never") (codes "uses") refl) (λ _. never) (apart (codes "never") (codes "reach") refl) (apart (codes "never") (codes "import") refl) (apart (codes "never") (codes "draw") refl)
+    (apart (codes "never") (codes "sim") refl) (apart (codes "never") (codes "uses") refl) (λ _. never) (apart (codes "never") (codes "reach") refl) (apart (codes "never") (codes "import") refl) (apart (codes "never") (codes "draw") refl) (apart (codes "never") (codes "export") refl)
 
 pub lasts : (rows : List Row) (scans every : ℕ) → HasScans scans every rows → (o : Option Lasting) × MayLast o rows
 lasts rows scans every (inl h) = (Some (Count scans), h)
@@ -519,7 +534,7 @@ only_reach : (rows : List Row)
     → AsksNone (codes "reach") rows
 only_reach rows reach =
     by_subcommand (codes "reach") rows (apart (codes "reach") (codes "check") refl) (apart (codes "reach") (codes "causes") refl) (apart (codes "reach") (codes "show") refl)
-    (apart (codes "reach") (codes "sim") refl) (apart (codes "reach") (codes "uses") refl) (apart (codes "reach") (codes "never") refl) (λ _. reach) (apart (codes "reach") (codes "import") refl) (apart (codes "reach") (codes "draw") refl)
+    (apart (codes "reach") (codes "sim") refl) (apart (codes "reach") (codes "uses") refl) (apart (codes "reach") (codes "never") refl) (λ _. reach) (apart (codes "reach") (codes "import") refl) (apart (codes "reach") (codes "draw") refl) (apart (codes "reach") (codes "export") refl)
 
 pub no_reach_of_moment : (rows : List Row) → ((o : Option ℕ) → HasNumber (codes "at") rows o → ⊥) → AsksNone (codes "reach") rows
 no_reach_of_moment rows none = only_reach rows (λ r h. none r.moment h.2)
@@ -633,7 +648,7 @@ watches_all rows false flag set h = cc
 -- The subcommand that compares makes no request.
 compares_alone : (rows : List Row) → AsksNone (codes "diff") rows
 compares_alone rows = by_subcommand (codes "diff") rows (apart (codes "diff") (codes "check") refl) (apart (codes "diff") (codes "causes") refl) (apart (codes "diff") (codes "show") refl)
-    (apart (codes "diff") (codes "sim") refl) (apart (codes "diff") (codes "uses") refl) (apart (codes "diff") (codes "never") refl) (apart (codes "diff") (codes "reach") refl) (apart (codes "diff") (codes "import") refl) (apart (codes "diff") (codes "draw") refl)
+    (apart (codes "diff") (codes "sim") refl) (apart (codes "diff") (codes "uses") refl) (apart (codes "diff") (codes "never") refl) (apart (codes "diff") (codes "reach") refl) (apart (codes "diff") (codes "import") refl) (apart (codes "diff") (codes "draw") refl) (apart (codes "diff") (codes "export") refl)
 
 -- It asks for nothing where no comparison is named, of a coil or of all names.
 pub no_comparison : (rows : List Row) → NamesNoDiff rows → NamesNoVerdicts rows → NamesNoDiffRuns rows → HasNoTask (codes "diff") rows

@@ -26,7 +26,7 @@ use Rattle.cli_arguments.specs.declared.request.Pace.TheVariants.{AnyMoments, Ev
 use Rattle.cli_arguments.specs.declared.request.CommandLine.{CommandLine}
 use Rattle.cli_arguments.specs.declared.request.ListRequest.{ListRequest}
 use Rattle.cli_arguments.specs.declared.request.Request.{Request}
-use Rattle.cli_arguments.specs.declared.request.Request.TheVariants.{Causes, Check, Draw, Expect, Film, Groups, Held, Import, Never, Possible, Progress, Reach, Relevant, Show, Sim, Uses, Watch, Waves}
+use Rattle.cli_arguments.specs.declared.request.Request.TheVariants.{Causes, Check, Draw, Expect, Export, Film, Groups, Held, Import, Never, Possible, Progress, Reach, Relevant, Show, Sim, Uses, Watch, Waves}
 use Rattle.cli_arguments.specs.declared.request.RunsWanted.{RunsWanted}
 use Rattle.cli_arguments.specs.declared.request.SimRequest.{SimRequest}
 use Rattle.cli_arguments.specs.declared.request.Task.{Task}
@@ -359,6 +359,12 @@ Asks name rows (Import opened control_on file hal) = (name ≡ codes "import")
     × HasText (codes "file") rows (string_bytes file)
     × HasOption (codes "hal") rows (option_map string_bytes hal)
 Asks name rows (Draw file) = (name ≡ codes "draw") × HasText (codes "file") rows (string_bytes file)
+Asks name rows (Export r) = (name ≡ codes "export")
+    × HasFlag (codes "st") rows
+    × HasOption (codes "name") rows (option_map string_bytes r.name)
+    × HasSwitch (codes "bits") rows r.bits
+    × HasSwitch (codes "codesys") rows r.codesys
+    × HasText (codes "file") rows (string_bytes r.file)
 
 -- The list has no part that begins or ends at a number, and nothing tells how far it is.
 abbrev pub HasNoPart : List Row → Type 0

@@ -352,6 +352,19 @@ pub struct DiffRunsRequest {
     pub why: bool,
 }
 
+/// What a request for a program in Structured Text names.
+#[derive(Drop)]
+pub struct ExportRequest {
+    /// The name of the program in the text, where it is given.
+    pub name: Option<String>,
+    /// Whether an address with one number is written by byte and bit.
+    pub bits: bool,
+    /// Whether the inputs of bistables are spelled as CODESYS has them.
+    pub codesys: bool,
+    /// The file of the program text.
+    pub file: String,
+}
+
 /// What the arguments ask for.
 #[derive(Drop)]
 pub enum Request {
@@ -441,6 +454,8 @@ pub enum Request {
         /// The file of the text.
         file: String,
     },
+    /// The program in Structured Text.
+    Export(ExportRequest),
 }
 
 /// What a command line asks for.

@@ -15,7 +15,9 @@ use crate::comparing::diff_task;
 use crate::found::{copied, is_set, optional, text, texts};
 use crate::parts::{Sources, sources_of};
 use crate::reaching::reach_request;
-use crate::request::{AllCoils, CommandLine, Excluded, NeverRequest, Request, Task, WordFault};
+use crate::request::{
+    AllCoils, CommandLine, Excluded, ExportRequest, NeverRequest, Request, Task, WordFault,
+};
 use crate::showing::show_request;
 use crate::simulating::sim_request;
 use clap::ArgMatches;
@@ -218,6 +220,7 @@ fn request_of(alloc: Global, name: &str, found: &ArgMatches<'_>) -> Result<Reque
         "sim" => sim_request(alloc, found),
         "import" => import_request(alloc, found),
         "draw" => draw_request(alloc, found),
+        "export" => export_request(alloc, found),
         _ => Err(WordFault::Usage),
     }
 }
@@ -248,6 +251,26 @@ fn draw_request(alloc: Global, found: &ArgMatches<'_>) -> Result<Request, WordFa
 {
     let file = text(alloc, found, "file")?;
     Ok(Request::Draw { file })
+}
+
+/// The request of `export`, which names the language.
+fn export_request(alloc: Global, found: &ArgMatches<'_>) -> Result<Request, WordFault>
+    ensures ok { IfOk result (Asks (codes "export") (rows_of (found_of found.now))) }
+    ensures err { IfErr result (UsageWhere (AsksNone (codes "export") (rows_of (found_of found.now)))) }
+{
+    if !is_set(found, "st") {
+        return Err(WordFault::Usage);
+    }
+    let bits = is_set(found, "bits");
+    let codesys = is_set(found, "codesys");
+    let name = optional(alloc, found, "name")?;
+    let file = text(alloc, found, "file")?;
+    Ok(Request::Export(ExportRequest {
+        name,
+        bits,
+        codesys,
+        file,
+    }))
 }
 
 /// The request of `import`, with how elements without a counterpart are read.

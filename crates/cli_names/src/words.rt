@@ -173,6 +173,7 @@ pub(crate) fn first_unknown<'a>(decls: &Decls, request: &'a Request) -> Option<W
         | Request::Waves(_)
         | Request::Uses { .. }
         | Request::Import { .. }
-        | Request::Draw { .. } => None,
+        | Request::Draw { .. }
+        | Request::Export(_) => None,
     }
 }

@@ -9,6 +9,7 @@
 -- and without COIL `ladder diff [--looks N] [--reachable] [--save FOLDER] [--quiet] [--aliases] [--why] OLD NEW`
 -- and `ladder diff --runs [--states N] [--save FOLDER] [--quiet] [--aliases] [--why] OLD NEW`;
 -- `ladder draw [--why] FILE`;
+-- `ladder export --st [--name NAME] [--bits] [--codesys] [--aliases] [--why] FILE`;
 -- `ladder import [--open] [--control on] [--hal FILE] [--why] PROJECT`;
 -- `ladder explain [CODE]...`; and `ladder --version`.
 use Rattle.std.specs.Prelude.{◌≡◌, List, Some, [], ◌∷◌, codes, true, false}
@@ -109,6 +110,9 @@ import_app = taking (codes "import") (flag_rule (codes "open") ∷ text_rule (co
 abbrev pub draw_app : App
 draw_app = taking (codes "draw") (flag_rule (codes "why") ∷ place_rule (codes "file") ∷ [])
 
+abbrev pub export_app : App
+export_app = taking (codes "export") (flag_rule (codes "st") ∷ text_rule (codes "name") ∷ flag_rule (codes "bits") ∷ flag_rule (codes "codesys") ∷ flag_rule (codes "aliases") ∷ flag_rule (codes "why") ∷ place_rule (codes "file") ∷ [])
+
 abbrev pub explain_app : App
 explain_app = taking (codes "explain") (list_rule (codes "codes") ∷ [])
 
@@ -116,7 +120,7 @@ explain_app = taking (codes "explain") (list_rule (codes "codes") ∷ [])
 abbrev pub ladder_app : App
 ladder_app = record {
   top = record (new_shape (codes "ladder")) { is_leaf = false; has_version = true; arg_required_else_help = true; subcommand_required = true };
-  subs = check_app.top ∷ causes_app.top ∷ show_app.top ∷ sim_app.top ∷ uses_app.top ∷ never_app.top ∷ reach_app.top ∷ diff_app.top ∷ draw_app.top ∷ import_app.top ∷ explain_app.top ∷ [];
+  subs = check_app.top ∷ causes_app.top ∷ show_app.top ∷ sim_app.top ∷ uses_app.top ∷ never_app.top ∷ reach_app.top ∷ diff_app.top ∷ draw_app.top ∷ export_app.top ∷ import_app.top ∷ explain_app.top ∷ [];
 }
 
 -- a command with no argument that is common to all subcommands, which clap reads as this

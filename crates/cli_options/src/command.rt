@@ -2,7 +2,7 @@
 
 ghost use Rattle.std.specs.Prelude.{◌≡◌, ◌∷◌, [], IfOk, false, map};
 ghost use Rattle.clap.specs.Words.{App, app_of, rule_of};
-ghost use Rattle.cli_options.specs.CommandLine.{IsApp, causes_app, check_app, ladder_app, never_app, show_app, sim_app, taking, uses_app};
+ghost use Rattle.cli_options.specs.CommandLine.{IsApp, causes_app, check_app, diff_app, ladder_app, never_app, reach_app, show_app, sim_app, taking, uses_app};
 ghost use Rattle.cli_options.specs.Table.{bare_app, with_all, word_rule};
 
 use crate::examples;
@@ -12,10 +12,12 @@ use crate::help::ALL_COILS_HELP;
 use crate::help::ALL_HELP;
 use crate::help::ANY_HELP;
 use crate::help::AT_HELP;
+use crate::help::BITS_HELP;
 use crate::help::CAUSES_ABOUT;
 use crate::help::CHANGES_HELP;
 use crate::help::CHECK_ABOUT;
 use crate::help::CODES_HELP;
+use crate::help::CODESYS_HELP;
 use crate::help::COIL_HELP;
 use crate::help::CONTROL_HELP;
 use crate::help::DIFF_ABOUT;
@@ -42,6 +44,10 @@ use crate::help::EVERY_HELP;
 use crate::help::EXPECT_HELP;
 use crate::help::EXPLAIN_ABOUT;
 use crate::help::EXPLAIN_HELP;
+use crate::help::EXPORT_ABOUT;
+use crate::help::EXPORT_ALIASES_HELP;
+use crate::help::EXPORT_NAME_HELP;
+use crate::help::EXPORT_STATEMENTS_HELP;
 use crate::help::FAULTS;
 use crate::help::FILE_HELP;
 use crate::help::FILM_HELP;
@@ -285,9 +291,19 @@ const DRAW: &[Word] = &[
     Word::Place("file", "FILE", STATEMENTS_HELP),
 ];
 
+const EXPORT: &[Word] = &[
+    Word::Flag("st", EXPORT_STATEMENTS_HELP),
+    Word::Text("name", "NAME", EXPORT_NAME_HELP),
+    Word::Flag("bits", BITS_HELP),
+    Word::Flag("codesys", CODESYS_HELP),
+    Word::Flag("aliases", EXPORT_ALIASES_HELP),
+    Word::Flag("why", EXPLAIN_HELP),
+    Word::Place("file", "FILE", FILE_HELP),
+];
+
 const EXPLAIN: &[Word] = &[Word::List("codes", "CODE", CODES_HELP)];
 
-/// The subcommands, in three tables: the proof of a function that names a table goes through all of it.
+/// The subcommands, in four tables: the proof of a function that names a table goes through all of it.
 const FIRST_SUBCOMMANDS: &[Subcommand] = &[
     Subcommand {
         name: "check",
@@ -330,7 +346,7 @@ const VIEW_SUBCOMMANDS: &[Subcommand] = &[
     },
 ];
 
-const OTHER_SUBCOMMANDS: &[Subcommand] = &[
+const SEARCH_SUBCOMMANDS: &[Subcommand] = &[
     Subcommand {
         name: "reach",
         about: REACH_ABOUT,
@@ -343,11 +359,20 @@ const OTHER_SUBCOMMANDS: &[Subcommand] = &[
         words: DIFF,
         examples: examples::DIFF,
     },
+];
+
+const OTHER_SUBCOMMANDS: &[Subcommand] = &[
     Subcommand {
         name: "draw",
         about: DRAW_ABOUT,
         words: DRAW,
         examples: examples::DRAW,
+    },
+    Subcommand {
+        name: "export",
+        about: EXPORT_ABOUT,
+        words: EXPORT,
+        examples: examples::EXPORT,
     },
     Subcommand {
         name: "import",
@@ -460,6 +485,13 @@ fn continued<'a>(alloc: Global) -> Result<Command<'a>, AllocError>
     with_subcommands(alloc, begun(alloc)?, VIEW_SUBCOMMANDS)
 }
 
+/// The command with those of its subcommands that search for something as well.
+fn searching<'a>(alloc: Global) -> Result<Command<'a>, AllocError>
+    ensures { IfOk result (λ c. app_of c ≡ record ladder_app { subs = check_app.top ∷ causes_app.top ∷ show_app.top ∷ sim_app.top ∷ uses_app.top ∷ never_app.top ∷ reach_app.top ∷ diff_app.top ∷ [] }) }
+{
+    with_subcommands(alloc, continued(alloc)?, SEARCH_SUBCOMMANDS)
+}
+
 /// The whole command line of the program `ladder`, with all subcommands.
 ///
 /// # Errors
@@ -468,5 +500,5 @@ fn continued<'a>(alloc: Global) -> Result<Command<'a>, AllocError>
 pub fn ladder<'a>(alloc: Global) -> Result<Command<'a>, AllocError>
     ensures { IfOk result (λ c. app_of c ≡ ladder_app) }
 {
-    with_subcommands(alloc, continued(alloc)?, OTHER_SUBCOMMANDS)
+    with_subcommands(alloc, searching(alloc)?, OTHER_SUBCOMMANDS)
 }

@@ -36,6 +36,10 @@ pub(crate) const DRAW: &str = "Examples:
   ladder draw pump.st > pump.ld                       from Structured Text
   ladder draw pump.st | ladder causes --any - Pump    what switches it on";
 
+pub(crate) const EXPORT: &str = "Examples:
+  ladder export --st plant.ld > plant.st              for a controller
+  ladder export --st --bits --codesys --name Plant plant.ld > plant.st";
+
 pub(crate) const IMPORT: &str = "Examples:
   ladder import plant.clp > plant.ld                  from ClassicLadder
   ladder import --hal plant.hal plant.clp > plant.ld  with its pins";

@@ -16,6 +16,7 @@ pub(crate) const FAULTS: &str =
   P1 to P8    the file is no project of ClassicLadder, or has what can't be
               carried over
   T1 to T10   the text is no program in Structured Text, or can't be drawn
+  E1 to E4    there is no such text of the program in Structured Text
   usage       the words are not those of a request
 `ladder explain CODE` says more of each, and `ladder help COMMAND` has examples.
 Status: 0 all was written, 1 a fault stopped it, 2 wrong words.
@@ -167,6 +168,10 @@ pub(crate) const DRAW_ABOUT: &str =
     "Draws a program in Structured Text: writes the program text whose
 scan does what its statements do, or says why there is none";
 
+pub(crate) const EXPORT_ABOUT: &str =
+    "Writes a program in Structured Text, for a controller: each run of
+its statements does what a scan of the drawing does";
+
 pub(crate) const IMPORT_ABOUT: &str =
     "Writes the program text of a ClassicLadder project, or says what of
 it can't be carried over";
@@ -214,6 +219,19 @@ pub(crate) const FILE_HELP: &str = "The program: declarations and rungs; at most
 
 pub(crate) const STATEMENTS_HELP: &str = "The program in Structured Text, at most 1048576
 bytes, or `-` for standard input";
+
+pub(crate) const EXPORT_STATEMENTS_HELP: &str = "Structured Text (IEC 61131-3); has to be given";
+
+pub(crate) const EXPORT_NAME_HELP: &str = "The name of the program in the text; without it
+`program0`";
+
+pub(crate) const BITS_HELP: &str = "Writes %IX13 as %IX1.5: byte 1, bit 5";
+
+pub(crate) const CODESYS_HELP: &str = "Calls the inputs of bistables SET1, RESET, SET and
+RESET1, as CODESYS does";
+
+pub(crate) const EXPORT_ALIASES_HELP: &str = "Takes the aliases for names where they can be names,
+and else writes them as comments";
 
 pub(crate) const PROJECT_HELP: &str = "The ClassicLadder project, a .clp file; at most
 1048576 bytes";

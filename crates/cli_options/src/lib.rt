@@ -5,6 +5,7 @@ mod command;
 mod declarations;
 mod drawing;
 mod examples;
+mod exports;
 mod files;
 mod help;
 mod list;

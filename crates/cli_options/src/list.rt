@@ -1,17 +1,18 @@
 //! The codes of docs/user/faults.md, with their pages. `tests/pages.py --write` writes this file.
 
-use crate::{declarations, drawing, files, projects, questions, statements, words};
+use crate::{declarations, drawing, exports, files, projects, questions, statements, words};
 
 /// The codes, in the order of the document.
-pub(crate) const CODES: [&str; 60] = [
+pub(crate) const CODES: [&str; 64] = [
     "V1", "V2", "V3", "V4", "V5", "V6", "V7", "V8", "V9", "A1", "G1", "G2", "G3", "G4", "G5", "G6",
     "G7", "G8", "G9", "G10", "G11", "G12", "G13", "G14", "G15", "C1", "C2", "C3", "C4", "C5", "C6",
     "C7", "C8", "S1", "X1", "X2", "X3", "X4", "X5", "X6", "X7", "P1", "P2", "P3", "P4", "P5", "P6",
-    "P7", "P8", "T1", "T2", "T3", "T4", "T5", "T6", "T7", "T8", "T9", "T10", "usage",
+    "P7", "P8", "T1", "T2", "T3", "T4", "T5", "T6", "T7", "T8", "T9", "T10", "E1", "E2", "E3",
+    "E4", "usage",
 ];
 
 /// The page of each code.
-pub(crate) const PAGES: [&str; 60] = [
+pub(crate) const PAGES: [&str; 64] = [
     declarations::V1,
     declarations::V2,
     declarations::V3,
@@ -71,6 +72,10 @@ pub(crate) const PAGES: [&str; 60] = [
     statements::T8,
     statements::T9,
     statements::T10,
+    exports::E1,
+    exports::E2,
+    exports::E3,
+    exports::E4,
     words::USAGE,
 ];
 
@@ -135,5 +140,9 @@ T7: an input that is written
 T8: a block that is called twice, or whose preset is missing
 T9: a drawing that would be too large
 T10: the drawing isn't the statements
+E1: the program can't have this name
+E2: an address that has two numbers already
+E3: a text that would be too large
+E4: the text isn't the program
 usage: the arguments are not those of a request
 ";

@@ -85,6 +85,12 @@ The status is 2. A subcommand, a file, a coil or a name is missing, an option is
 | `--scans` | `--every` |  |
 | `--gap` |  | `--every` |
 
+`ladder export`:
+
+| | Wants | Excludes |
+|---|---|---|
+| `export FILE` | `--st` |  |
+
 `ladder import`:
 
 | | Wants | Excludes |

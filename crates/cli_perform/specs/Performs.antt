@@ -1,16 +1,18 @@
 -- How a request ends: all is written, or a fault stops it.
-use Rattle.std.specs.Prelude.{◌≡◌, ◌⊎◌, Bool, None, is_some}
+use Rattle.std.specs.Prelude.{◌≡◌, ◌⊎◌, ℕ, Bool, List, Option, None, codes, is_some, option_map, string_bytes, unwrap_or}
 use Rattle.io_text.specs.Log.{PutsAll, PutsPrefix}
 use Rattle.text_cross_reference.specs.Uses.{uses_text}
 use Rattle.cli_inputs.specs.declared.fault.ToolFault.{ToolFault}
 use Rattle.cli_inputs.specs.declared.fault.ToolFault.TheVariants as fault
+use Rattle.cli_arguments.specs.declared.request.ExportRequest.{ExportRequest}
 use Rattle.cli_arguments.specs.declared.request.Request.{Request}
-use Rattle.cli_arguments.specs.declared.request.Request.TheVariants.{Causes, Check, Draw, Groups, Held, Import, Show, Sim, Uses}
+use Rattle.cli_arguments.specs.declared.request.Request.TheVariants.{Causes, Check, Draw, Export, Groups, Held, Import, Show, Sim, Uses}
 use Rattle.cli_arguments.specs.declared.request.Request.TheVariants as request
 use Rattle.cli_inputs.specs.Setting.{Given, HasProgramFault, HasSettingFault}
 use Rattle.cli_inputs.specs.Reports.{IsReported, Logs, Refuses}
 use Rattle.clp_project.specs.declared.reading.ReadingOptions.{ReadingOptions}
 use Rattle.cli_draw.specs.Drawing.{BreaksDrawing, Draws}
+use Rattle.cli_export.specs.Exporting.{BreaksExport, Exports}
 use Rattle.cli_import.specs.Carrying.{BreaksCarrying, Carries}
 use Rattle.cli_lists.specs.Lists.{BreaksGroups, BreaksHeldBy, BreaksList, BreaksProgress, BreaksRelevant, CountsGroups, CountsHeldBy, CountsList, CountsProgress, CountsRelevant, HasHeldFaultBy, HasListFault, HasRelevantFault, after_for, scans_of}
 use Rattle.cli_states.specs.AnyState.{BreaksPossible, CountsPossible, HasPossibleFault}
@@ -23,6 +25,14 @@ use Rattle.cli_views.specs.Views.{BreaksFilm, BreaksTrace, BreaksWatch, BreaksWa
 -- how the project of an import is read
 abbrev pub reading_of : Bool → Bool → ReadingOptions
 reading_of opened control_on = record { opened = opened; control_on = control_on }
+
+-- the name that a program is to have in Structured Text
+abbrev pub name_of : Option (List ℕ) → List ℕ
+name_of name = unwrap_or name (codes "program0")
+
+-- what the request names for it
+abbrev pub name_for : ExportRequest → List ℕ
+name_for r = name_of (option_map string_bytes r.name)
 
 -- Status 0. Only a simulation writes on `save`; on `err` only a list, a search for a run, or a simulation that tells how far it is.
 abbrev pub IsDone : Request → Given → Logs → Logs → Type 0
@@ -44,6 +54,7 @@ IsDone (request.Waves r) g old new = IsWaved g r.every old.out new.out × (new.s
 IsDone (Uses file) g old new = Prints uses_text g (PutsAll old.out new.out) × (new.save ≡ old.save) × (new.err ≡ old.err)
 IsDone (Import opened control_on file hal) g old new = Carries (reading_of opened control_on) g.program (PutsAll old.out new.out) × (new.save ≡ old.save) × (new.err ≡ old.err)
 IsDone (Draw file) g old new = Draws g.program (PutsAll old.out new.out) × (new.save ≡ old.save) × (new.err ≡ old.err)
+IsDone (Export r) g old new = Exports g (name_for r) r.bits (PutsAll old.out new.out) × (new.save ≡ old.save) × (new.err ≡ old.err)
 
 -- the faults that the texts and arguments of a request can have
 abbrev pub HasFault : Request → Given → ToolFault → Type 0
@@ -65,6 +76,7 @@ HasFault (request.Waves r) g = HasSettingFault g
 HasFault (Uses file) g = HasProgramFault g
 HasFault (Import opened control_on file hal) g = λ f. ⊥
 HasFault (Draw file) g = λ f. ⊥
+HasFault (Export r) g = HasProgramFault g
 
 -- Status 1, by a fault while running.
 abbrev pub Breaks : Request → Given → Logs → Logs → Type 0
@@ -88,6 +100,7 @@ Breaks (Uses file) g old new =
     Prints uses_text g (PutsPrefix old.out new.out) × (new.save ≡ old.save) × IsReported g old.err new.err fault.Write
 Breaks (Import opened control_on file hal) g old new = BreaksCarrying (reading_of opened control_on) g.why g.program old.out new.out old.err new.err × (new.save ≡ old.save)
 Breaks (Draw file) g old new = BreaksDrawing g.why g.program old.out new.out old.err new.err × (new.save ≡ old.save)
+Breaks (Export r) g old new = BreaksExport g (name_for r) r.bits old.out new.out old.err new.err × (new.save ≡ old.save)
 
 -- Status 1.
 abbrev pub IsFailed : Request → Given → Logs → Logs → Type 0

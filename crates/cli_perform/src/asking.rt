@@ -99,7 +99,8 @@ fn check_for(
         | Request::Waves(_)
         | Request::Uses { .. }
         | Request::Import { .. }
-        | Request::Draw { .. } => Ok(()),
+        | Request::Draw { .. }
+        | Request::Export(_) => Ok(()),
     }
 }
 

@@ -44,7 +44,8 @@ fn form_of(request: &Request) -> GroupFormat {
         | Request::Waves(_)
         | Request::Uses { .. }
         | Request::Import { .. }
-        | Request::Draw { .. } => GroupFormat::Table,
+        | Request::Draw { .. }
+        | Request::Export(_) => GroupFormat::Table,
     }
 }
 
@@ -88,7 +89,8 @@ fn state_of(request: &Request) -> Option<&str> {
         | Request::Waves(_)
         | Request::Uses { .. }
         | Request::Import { .. }
-        | Request::Draw { .. } => None,
+        | Request::Draw { .. }
+        | Request::Export(_) => None,
     }
 }
 
@@ -112,7 +114,8 @@ fn program_of(request: &Request) -> &str {
         | Request::Waves(_)
         | Request::Uses { .. }
         | Request::Import { .. }
-        | Request::Draw { .. } => "",
+        | Request::Draw { .. }
+        | Request::Export(_) => "",
     }
 }
 

@@ -175,6 +175,7 @@ pub(crate) fn readers_of<'a, 'p>(
         Request::Check { file, .. } | Request::Uses { file } | Request::Draw { file } => {
             alone(opening, file.as_str())
         }
+        Request::Export(export) => alone(opening, export.file.as_str()),
         Request::Import { file, hal, .. } => imported(opening, file.as_str(), hal),
         Request::Causes { list, .. }
         | Request::Progress { list, .. }

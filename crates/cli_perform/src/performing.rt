@@ -1,15 +1,17 @@
 //! What is done for a request, once its texts were read: one call for each kind.
 
-ghost use Rattle.std.specs.Prelude.{◌≡◌, ◌≤◌, [], option_map, unwrap_or, vec_items};
-ghost use Rattle.cli_inputs.specs.Reports.{logs};
-ghost use Rattle.io_text.specs.Log.{PutsAll};
+ghost use Rattle.std.specs.Prelude.{◌≡◌, ◌≤◌, ◌⊎◌, [], option_map, string_bytes, unwrap_or, vec_items};
+ghost use Rattle.cli_inputs.specs.Reports.{Refuses, logs};
+ghost use Rattle.io_text.specs.Log.{PutsAll, WriteLog};
 ghost use Rattle.cli_draw.specs.Drawing.{BreaksDrawing, Draws};
+ghost use Rattle.cli_export.specs.Exporting.{BreaksExport, Exports};
 ghost use Rattle.cli_import.specs.Carrying.{BreaksCarrying, Carries};
-ghost use Rattle.cli_perform.specs.Performs.{IsDone, IsFailed, reading_of};
-ghost use Rattle.cli_inputs.specs.Setting.{given_by};
+ghost use Rattle.cli_perform.specs.Performs.{IsDone, IsFailed, name_of, reading_of};
+ghost use Rattle.cli_inputs.specs.Setting.{HasProgramFault, given_by};
 
-use cli_arguments::Request;
+use cli_arguments::{ExportRequest, Request};
 use cli_draw::write_drawing;
+use cli_export::{Exporting, write_export};
 use cli_import::carry;
 use cli_inputs::Texts;
 use cli_lists::{list_causes, list_groups, list_held, list_progress, list_relevant};
@@ -56,6 +58,37 @@ fn draw_text<O: Sink, E: Sink>(alloc: Global, texts: &Texts, out: &mut O, err: &
     ensures failed { result ≡ 1 → BreaksDrawing (given_by texts.now).why (given_by texts.now).program (O.log out.old) (O.log out.new) (E.log err.old) (E.log err.new) }
 {
     write_drawing(alloc, texts.why, &texts.program, out, err)
+}
+
+/// The name of the program in the text: the one that is given, or else `program0`.
+fn name_of(name: &Option<String>) -> &[u8]
+    ensures { result.now ≡ name_of (option_map string_bytes name.now) }
+{
+    match name {
+        Some(name) => name.as_bytes(),
+        None => b"program0",
+    }
+}
+
+/// Writes a program in Structured Text.
+fn export_text<O: Sink, E: Sink>(
+    alloc: Global,
+    request: &ExportRequest,
+    texts: &Texts,
+    out: &mut O,
+    err: &mut E,
+) -> u8
+    ensures status { result ≤ 1 }
+    ensures done { result ≡ 0 → Exports (given_by texts.now) (name_of (option_map string_bytes request.now.name)) request.now.bits (PutsAll (O.log out.old) (O.log out.new)) × (E.log err.new ≡ E.log err.old) }
+    ensures failed { (save : WriteLog) → result ≡ 1 → Refuses (given_by texts.now) (HasProgramFault (given_by texts.now)) (logs (O.log out.old) save (E.log err.old)) (logs (O.log out.new) save (E.log err.new))
+        ⊎ BreaksExport (given_by texts.now) (name_of (option_map string_bytes request.now.name)) request.now.bits (O.log out.old) (O.log out.new) (E.log err.old) (E.log err.new) }
+{
+    let exporting = Exporting {
+        name: name_of(&request.name),
+        bits: request.bits,
+        codesys: request.codesys,
+    };
+    write_export(alloc, exporting, texts, out, err)
 }
 
 /// Performs a request on its texts: its text on `out`, the line of counts on `err`, and the state that is to be saved on `save`.
@@ -116,6 +149,7 @@ pub fn perform<O: Sink, S: Sink, E: Sink>(
             ..
         } => import_project(alloc, *opened, *control_on, texts, out, err),
         Request::Draw { .. } => draw_text(alloc, texts, out, err),
+        Request::Export(export) => export_text(alloc, export, texts, out, err),
         Request::Sim(sim) => { trace(alloc, texts, sim.every, sim.save.is_some(), out, save, err) }
     }
 }

@@ -307,7 +307,8 @@ fn saving_of(request: &Request) -> Option<Saving<'_>> {
         | Request::Waves(_)
         | Request::Uses { .. }
         | Request::Import { .. }
-        | Request::Draw { .. } => None,
+        | Request::Draw { .. }
+        | Request::Export(_) => None,
     }
 }
 

@@ -27,7 +27,8 @@ pub fn ask_of(request: &mut Request, coil: String)
         | Request::Waves(_)
         | Request::Uses { .. }
         | Request::Import { .. }
-        | Request::Draw { .. } => (),
+        | Request::Draw { .. }
+        | Request::Export(_) => (),
     }
 }
 
@@ -53,6 +54,7 @@ pub fn is_quiet(request: &Request) -> bool
         | Request::Waves(_)
         | Request::Uses { .. }
         | Request::Import { .. }
-        | Request::Draw { .. } => false,
+        | Request::Draw { .. }
+        | Request::Export(_) => false,
     }
 }

@@ -209,6 +209,8 @@ const FORMS: &[Rule] = &[
     ),
 ];
 
+const EXPORT: &[Rule] = &[Rule::Wants(&[Term::Place("file", "export FILE")], &[Term::Flag("st")])];
+
 /// The rules of a subcommand; none where there is no such subcommand.
 pub fn rules_of(name: &str) -> &'static [Rule] {
     match name {
@@ -219,6 +221,7 @@ pub fn rules_of(name: &str) -> &'static [Rule] {
         "never" => NEVER,
         "reach" => REACH,
         "import" => IMPORT,
+        "export" => EXPORT,
         _ => &[],
     }
 }

@@ -1,1 +1,2 @@
+mod Begins
 mod Prefixes

@@ -11,6 +11,15 @@ use thiserror::Error;
 pub enum ExportFault {
     #[error("out of memory")]
     Memory,
+    /// The name that the program is to have is no name in Structured Text, or something is declared by it.
+    #[error("the program can't have this name")]
+    ProgramName,
+    /// Addresses are to be written by byte and bit, and that of this variable, the first such one, has two numbers already.
+    #[error("an address has two numbers already")]
+    TwoNumbers { variable: usize },
+    /// What was written has more statements or more names than are read again.
+    #[error("the text has too many statements or names")]
+    TooLarge,
     /// What was written isn't found to be the program.
     #[error("the text isn't the program")]
     NotFaithful,

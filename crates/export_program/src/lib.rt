@@ -8,7 +8,7 @@ mod matching;
 mod naming;
 mod writing;
 
-pub use exporting::is_exported;
+pub use exporting::check_export;
 pub use fault::ExportFault;
 pub use form::AddressForm;
 pub use writing::export;

@@ -6,7 +6,7 @@ ghost use Rattle.std.specs.List.{list_all};
 ghost use Rattle.export_program.specs.Declarations.{IsNamed, IsNumbered};
 
 /// What is behind a name that a word begins with; None where it begins with something else.
-fn behind<'a>(word: &'a [u8], name: &[u8]) -> Option<&'a [u8]>
+pub(crate) fn behind<'a>(word: &'a [u8], name: &[u8]) -> Option<&'a [u8]>
     ensures { IfSome result (λ rest. word.now ≡ name.now ++ rest.now) }
 {
     word.strip_prefix(name)

@@ -2,7 +2,7 @@
 
 use crate::form::Form;
 use crate::names::Names;
-use crate::spelling::Word;
+use crate::symbol::Symbol;
 use crate::text::Text;
 use diagram_declarations::{Address, BlockKind, Decls, Instance, Parameter, Var};
 use diagram_program::{Cell, Program};
@@ -91,8 +91,7 @@ fn add_variable(out: &mut Text, word: &[u8], var: &Var, bits: bool) {
     if var.initial {
         out.add(b" := TRUE");
     }
-    out.add(b";");
-    out.end_line();
+    out.end_with(b";");
 }
 
 /// Whether a rung calls an instance.
@@ -100,24 +99,24 @@ fn is_called_in(program: &Program, rung: usize, number: usize) -> bool {
     if rung >= program.rungs() {
         return false;
     }
-    program
-        .actions(rung)
-        .iter()
-        .any(|action| match action.cell {
-            Cell::Block { inst } => inst == number,
-            Cell::Empty
-            | Cell::Wire
-            | Cell::Contact { .. }
-            | Cell::Coil { .. }
-            | Cell::Lower { .. }
-            | Cell::Jump { .. }
-            | Cell::Return => false,
-        })
+    for action in program.actions(rung) {
+        if let Cell::Block { inst } = action.cell {
+            if inst == number {
+                return true;
+            }
+        }
+    }
+    false
 }
 
 /// Whether the program calls an instance.
 fn is_called(program: &Program, number: usize) -> bool {
-    (0..program.rungs()).any(|rung| is_called_in(program, rung, number))
+    for rung in 0..program.rungs() {
+        if is_called_in(program, rung, number) {
+            return true;
+        }
+    }
+    false
 }
 
 /// Adds the declaration of an instance: with its preset where no call has it.
@@ -128,44 +127,32 @@ fn add_instance(out: &mut Text, word: &[u8], instance: &Instance, called: bool) 
     if !called && add_preset(out, b" := (", instance.kind, instance.preset) {
         out.add(b")");
     }
-    out.add(b";");
-    out.end_line();
-}
-
-/// Adds the declarations of memories, flags or helpers.
-fn add_bools(out: &mut Text, words: &[Word]) {
-    for word in words {
-        out.add(b"  ");
-        out.add(word);
-        out.add(b" : BOOL;");
-        out.end_line();
-    }
+    out.end_with(b";");
 }
 
 /// Adds the declarations of the variables and the instances of a program.
-fn add_declared(out: &mut Text, program: &Program, names: &Names, form: Form<'_>) {
+fn add_declared(out: &mut Text, program: &Program, names: &Names<'_>, bits: bool) {
     let decls: &Decls = program.decls();
-    for (var, word) in decls.vars().iter().zip(&names.variables) {
-        add_variable(out, word, var, form.bits);
+    for (number, var) in decls.vars().iter().enumerate() {
+        add_variable(out, names.name(Symbol::Variable(number)), var, bits);
     }
-    for (number, word) in names.instances.iter().enumerate() {
-        if let Some(instance) = decls.instances().get(number) {
-            add_instance(out, word, instance, is_called(program, number));
-        }
+    for (number, instance) in decls.instances().iter().enumerate() {
+        let word = names.name(Symbol::Output(number));
+        add_instance(out, word, instance, is_called(program, number));
     }
 }
 
 /// Adds the name of the program and all declarations.
-pub(crate) fn add_declarations(out: &mut Text, program: &Program, names: &Names, form: Form<'_>) {
+pub(crate) fn add_declarations(
+    out: &mut Text,
+    program: &Program,
+    names: &Names<'_>,
+    form: Form<'_>,
+) {
     out.add(b"PROGRAM ");
-    out.add(form.name);
-    out.end_line();
-    out.add(b"VAR");
-    out.end_line();
-    add_declared(out, program, names, form);
-    add_bools(out, &names.memories);
-    add_bools(out, &names.flags);
-    add_bools(out, &names.helpers);
-    out.add(b"END_VAR");
-    out.end_line();
+    out.end_with(form.name);
+    out.end_with(b"VAR");
+    add_declared(out, program, names, form.bits);
+    names.declare_to(out);
+    out.end_with(b"END_VAR");
 }

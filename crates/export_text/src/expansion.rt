@@ -2,16 +2,17 @@
 
 use crate::network::Network;
 use crate::node::{Node, RAIL};
-use crate::piece::{Piece, symbol_in};
+use crate::piece::{Piece, negative, only, symbol_in};
+use crate::table::{Part, Table};
 use diagram_program::geometry::{COLUMNS, ROWS};
-use std::alloc::{AllocError, Global};
+use std::alloc::Global;
 
 /// The most steps that an expression is written in.
 const MOST_STEPS: usize = 100_000;
 
 /// What is still to be written of an expression.
 #[derive(Clone, Copy)]
-enum Task {
+pub(crate) enum Task {
     /// What the power of a node needs beside that of another one. If it is an OR, and another operand of an OR stands behind it, it has
     /// parentheses: `a OR b OR c` is read as `a OR (b OR c)`, and the rows of one joint stay together.
     Power {
@@ -28,115 +29,144 @@ enum Task {
     Put(Piece),
 }
 
-/// An expression while it is written: the last task is the first to be done.
+/// Expressions, and what is still to be written of the last one: the last task is the first to be done.
 #[derive(Drop)]
-struct Expansion<'n> {
-    network: &'n Network,
-    tasks: Vec<Task>,
-    pieces: Vec<Piece>,
-    literals: usize,
+pub(crate) struct Expressions {
+    pub pieces: Table<Piece>,
+    pub tasks: Table<Task>,
+    /// How many literals the last one has.
+    pub literals: usize,
 }
 
-impl Expansion<'_> {
+impl Expressions {
+    /// No expressions.
+    pub(crate) fn new(alloc: Global) -> Expressions {
+        Expressions {
+            pieces: Table::new(alloc),
+            tasks: Table::new(alloc),
+            literals: 0,
+        }
+    }
+
     /// Divides the way from a node to another one into parts, the one next to the rail first.
-    fn divide(&mut self, node: Node, target: Node, is_last: bool) -> Result<(), AllocError> {
+    fn divide(&mut self, network: &Network, node: Node, target: Node, is_last: bool) {
         if node.is(target) {
-            self.tasks.push(Task::Put(Piece::Constant(true)))?;
-            return Ok(());
+            return self.tasks.push(Task::Put(Piece::Constant(true)));
         }
         let mut part = node;
-        let is_all = is_last && self.network.next(node).is(target);
+        let is_all = is_last && network.next(node).is(target);
         for _ in 0..=COLUMNS {
-            let next = self.network.next(part);
+            let next = network.next(part);
             self.tasks.push(Task::Part {
                 node: part,
                 target: next,
                 is_all,
-            })?;
+            });
             if next.is(target) || next.column == 0 {
                 break;
             }
-            self.tasks.push(Task::Put(Piece::And))?;
+            self.tasks.push(Task::Put(Piece::And));
             part = next;
         }
-        Ok(())
     }
 
-    /// Writes what a node adds, or divides it into branches, the upper ones first.
-    fn branch(&mut self, node: Node, target: Node, is_all: bool) -> Result<(), AllocError> {
-        if let Some(piece) = self.network.piece(node) {
+    /// Divides what a node adds into its branches, the upper ones first.
+    fn branch(&mut self, network: &Network, node: Node, target: Node) {
+        let mut rows = node;
+        for number in 0..ROWS {
+            let last = network.last_branch(rows, target);
+            self.tasks.push(Task::Power {
+                node: network.behind_wires(last),
+                target,
+                is_last: number == 0,
+            });
+            rows = rows.without(last);
+            if rows.is_empty() {
+                break;
+            }
+            self.tasks.push(Task::Put(Piece::Or));
+        }
+    }
+
+    /// Writes what a node adds, or divides it into branches.
+    fn part(&mut self, network: &Network, node: Node, target: Node, is_all: bool) {
+        if let Some(piece) = network.piece(node) {
             return self.put(piece);
         }
         if !is_all {
-            self.put(Piece::Open)?;
-            self.tasks.push(Task::Put(Piece::Close))?;
+            self.put(Piece::Open);
+            self.tasks.push(Task::Put(Piece::Close));
         }
-        let mut rows = node;
-        for number in 0..ROWS {
-            let last = self.network.last_branch(rows, target);
-            self.tasks.push(Task::Power {
-                node: self.network.behind_wires(last),
-                target,
-                is_last: number == 0,
-            })?;
-            rows = rows.without(last);
-            if rows.count() == 0 {
-                break;
-            }
-            self.tasks.push(Task::Put(Piece::Or))?;
-        }
-        Ok(())
+        self.branch(network, node, target);
     }
 
     /// Writes a piece.
-    fn put(&mut self, piece: Piece) -> Result<(), AllocError> {
+    fn put(&mut self, piece: Piece) {
         if symbol_in(piece).is_some() {
             self.literals = self.literals.saturating_add(1);
         }
-        self.pieces.push(piece)?;
-        Ok(())
+        self.pieces.push(piece);
     }
 
     /// Does a task.
-    fn perform(&mut self, task: Task) -> Result<(), AllocError> {
+    fn perform(&mut self, network: &Network, task: Task) {
         match task {
             Task::Power {
                 node,
                 target,
                 is_last,
-            } => self.divide(node, target, is_last),
+            } => self.divide(network, node, target, is_last),
             Task::Part {
                 node,
                 target,
                 is_all,
-            } => self.branch(node, target, is_all),
+            } => self.part(network, node, target, is_all),
             Task::Put(piece) => self.put(piece),
         }
     }
-}
 
-/// The power of a node as an expression, unless it has more than so many literals.
-pub(crate) fn power(
-    alloc: Global,
-    network: &Network,
-    node: Node,
-    most: usize,
-) -> Result<Option<Vec<Piece>>, AllocError> {
-    let mut expansion = Expansion {
-        network,
-        tasks: Vec::new(alloc),
-        pieces: Vec::new(alloc),
-        literals: 0,
-    };
-    expansion.divide(node, RAIL, true)?;
-    for _ in 0..MOST_STEPS {
-        let Some(task) = expansion.tasks.pop() else {
-            break;
-        };
-        expansion.perform(task)?;
-        if expansion.literals > most {
-            return Ok(None);
+    /// Adds the power of a node as an expression, unless it has more than so many literals.
+    pub(crate) fn power(&mut self, network: &Network, node: Node, most: usize) -> Option<Part> {
+        let from = self.pieces.len();
+        self.tasks.truncate(0);
+        self.literals = 0;
+        self.divide(network, node, RAIL, true);
+        for _ in 0..MOST_STEPS {
+            let Some(task) = self.tasks.pop() else {
+                break;
+            };
+            self.perform(network, task);
+            if self.literals > most {
+                return None;
+            }
         }
+        Some(self.pieces.since(from))
     }
-    Ok(Some(expansion.pieces))
+
+    /// Adds an expression of one piece.
+    pub(crate) fn alone(&mut self, piece: Piece) -> Part {
+        let from = self.pieces.len();
+        self.pieces.push(piece);
+        self.pieces.since(from)
+    }
+
+    /// Adds the inverse of an expression.
+    pub(crate) fn inverse(&mut self, of: Part) -> Part {
+        let from = self.pieces.len();
+        match only(self.pieces.part(of)) {
+            Some(
+                Piece::Literal {
+                    symbol,
+                    is_on: true,
+                },
+            ) => self.pieces.push(negative(symbol)),
+            Some(Piece::Constant(value)) => self.pieces.add(&[Piece::Not, Piece::Constant(value)]),
+            _ => {
+                self.pieces.add(&[Piece::Not, Piece::Open]);
+                self.pieces.repeat(of);
+                self.pieces.push(Piece::Close);
+            }
+        }
+        self.pieces.since(from)
+    }
 }

@@ -8,7 +8,7 @@ pub struct Form<'f> {
     /// An address with one number is written with two: that of its byte and that of its bit.
     pub bits: bool,
     /// The inputs of bistables are spelled `SET1`, `RESET`, `SET` and `RESET1`, as CODESYS has them.
-    pub spelled: bool,
+    pub codesys: bool,
     /// Aliases are written as names.
     pub titles: bool,
 }

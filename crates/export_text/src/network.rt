@@ -3,13 +3,14 @@
 use crate::node::{Node, RAIL};
 use crate::piece::{Piece, negative, positive};
 use crate::symbol::Symbol;
+use crate::table::Table;
 use diagram_program::geometry::{COLUMNS, PLACES, Place, ROWS};
 use diagram_program::{Cell, Mode, Operand, Program};
-use std::alloc::{AllocError, Global};
+use std::alloc::Global;
 
 /// A node whose power a helper has.
 #[derive(Clone, Copy)]
-struct Kept {
+pub(crate) struct Kept {
     node: Node,
     helper: Symbol,
 }
@@ -17,12 +18,12 @@ struct Kept {
 /// The network of a rung, place by place: columns from the left, and in each from the top row.
 #[derive(Drop)]
 pub(crate) struct Network {
-    cells: Vec<Cell>,
+    pub cells: Table<Cell>,
     /// What leads to the left of each place.
-    lefts: Vec<Node>,
+    pub lefts: Table<Node>,
     /// The nearest node on the way to the rail that all power of the left goes through.
-    nexts: Vec<Node>,
-    kept: Vec<Kept>,
+    pub nexts: Table<Node>,
+    pub kept: Table<Kept>,
 }
 
 /// The number of a place.
@@ -70,46 +71,51 @@ fn contact(mode: Mode, operand: Operand, place: usize) -> Piece {
 }
 
 impl Network {
-    /// The network of a rung.
-    pub(crate) fn of(alloc: Global, program: &Program, rung: usize) -> Result<Network, AllocError> {
-        let mut network = Network {
-            cells: Vec::new(alloc),
-            lefts: Vec::new(alloc),
-            nexts: Vec::new(alloc),
-            kept: Vec::new(alloc),
-        };
+    /// A network of no places.
+    pub(crate) fn new(alloc: Global) -> Network {
+        Network {
+            cells: Table::new(alloc),
+            lefts: Table::new(alloc),
+            nexts: Table::new(alloc),
+            kept: Table::new(alloc),
+        }
+    }
+
+    /// Begins the network of a rung.
+    pub(crate) fn begin(&mut self, program: &Program, rung: usize) {
+        self.cells.truncate(0);
+        self.lefts.truncate(0);
+        self.kept.truncate(0);
         for place in 0..PLACES {
             let (row, column) = (place % ROWS, place / ROWS);
-            network.cells.push(cell_at(program, rung, row, column))?;
-            let left = network.behind_wires(feeders(program, rung, row, column));
-            network.lefts.push(left)?;
+            self.cells.push(cell_at(program, rung, row, column));
+            let left = self.behind_wires(feeders(program, rung, row, column));
+            self.lefts.push(left);
         }
-        network.join(alloc)?;
-        Ok(network)
+        self.join();
     }
 
     /// Finds out where the branches on the left of each place meet.
-    fn join(&mut self, alloc: Global) -> Result<(), AllocError> {
-        self.nexts = Vec::new(alloc);
+    fn join(&mut self) {
+        self.nexts.truncate(0);
         for place in 0..PLACES {
             let next = self.next(self.left(place));
-            self.nexts.push(next)?;
+            self.nexts.push(next);
         }
-        Ok(())
     }
 
     /// What leads to the left of a place.
     pub(crate) fn left(&self, place: usize) -> Node {
-        match self.lefts.get(place) {
-            Some(node) => *node,
+        match self.lefts.at(place) {
+            Some(node) => node,
             None => RAIL,
         }
     }
 
     /// The cell on whose right a row ends.
     fn cell(&self, column: usize, row: usize) -> Cell {
-        match self.cells.get(place_of(column.saturating_sub(1), row)) {
-            Some(cell) => *cell,
+        match self.cells.at(place_of(column.saturating_sub(1), row)) {
+            Some(cell) => cell,
             None => Cell::Empty,
         }
     }
@@ -137,21 +143,18 @@ impl Network {
 
     /// The helper that has the power of a node.
     fn helper(&self, node: Node) -> Option<Symbol> {
-        match self.kept.iter().find(|kept| kept.node.is(node)) {
-            Some(kept) => Some(kept.helper),
-            None => None,
+        for kept in self.kept.items() {
+            if kept.node.is(node) {
+                return Some(kept.helper);
+            }
         }
+        None
     }
 
     /// Says that a helper has the power of a node.
-    pub(crate) fn keep(
-        &mut self,
-        alloc: Global,
-        node: Node,
-        helper: Symbol,
-    ) -> Result<(), AllocError> {
-        self.kept.push(Kept { node, helper })?;
-        self.join(alloc)
+    pub(crate) fn keep(&mut self, node: Node, helper: Symbol) {
+        self.kept.push(Kept { node, helper });
+        self.join();
     }
 
     /// The next node of one that leads to a place, as far as that is known.
@@ -159,8 +162,8 @@ impl Network {
         for row in 0..ROWS {
             let place = place_of(node.column, row);
             if self.left(place).is(node) {
-                return match self.nexts.get(place) {
-                    Some(next) => *next,
+                return match self.nexts.at(place) {
+                    Some(next) => next,
                     None => RAIL,
                 };
             }
@@ -229,7 +232,7 @@ impl Network {
 
     /// The next node on the way to the rail that all power of a node goes through.
     pub(crate) fn next(&self, node: Node) -> Node {
-        if node.column == 0 || self.helper(node).is_some() || node.count() == 0 {
+        if node.column == 0 || self.helper(node).is_some() || node.is_empty() {
             return RAIL;
         }
         match node.only() {
@@ -243,7 +246,7 @@ impl Network {
         if let Some(helper) = self.helper(node) {
             return Some(positive(helper));
         }
-        if node.count() == 0 {
+        if node.is_empty() {
             return Some(Piece::Constant(false));
         }
         let row = node.only()?;
@@ -285,14 +288,14 @@ impl Network {
 
     /// The edge contact at a place: its mode, what it reads, and the number of its memory.
     pub(crate) fn edge(&self, place: usize) -> Option<(Mode, Symbol, usize)> {
-        match self.cells.get(place) {
+        match self.cells.at(place) {
             Some(
                 Cell::Contact {
                     mode,
                     operand,
                     memory: Some(memory),
                 },
-            ) => Some((*mode, symbol_of(*operand), *memory)),
+            ) => Some((mode, symbol_of(operand), memory)),
             _ => None,
         }
     }
@@ -300,7 +303,7 @@ impl Network {
     /// Whether the cell below a place is the second input of its block, and has a wire.
     pub(crate) fn has_second(&self, place: usize) -> bool {
         matches!(
-            self.cells.get(place.saturating_add(1)),
+            self.cells.at(place.saturating_add(1)),
             Some(Cell::Lower { linked: true, .. })
         )
     }
@@ -309,7 +312,8 @@ impl Network {
     pub(crate) fn joint(&self, place: usize) -> Option<Node> {
         let node = self.left(place);
         let is_here = node.column == place / ROWS;
-        if is_here && node.count() > 1 && self.helper(node).is_none() {
+        let is_joint = !node.is_empty() && node.only().is_none();
+        if is_here && is_joint && self.helper(node).is_none() {
             Some(node)
         } else {
             None

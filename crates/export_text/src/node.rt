@@ -56,23 +56,27 @@ impl Node {
         row < ROWS && self.rows[row]
     }
 
-    /// How many rows there are.
-    pub(crate) fn count(self) -> usize {
-        (0..ROWS).filter(|row| self.has(*row)).count()
+    /// Whether there are no rows.
+    pub(crate) fn is_empty(self) -> bool {
+        self.rows == [false; ROWS]
     }
 
     /// The row, where there is just one.
     pub(crate) fn only(self) -> Option<usize> {
-        if self.count() == 1 {
-            (0..ROWS).find(|row| self.has(*row))
-        } else {
-            None
+        let mut found = None;
+        for row in 0..ROWS {
+            if self.has(row) {
+                if found.is_some() {
+                    return None;
+                }
+                found = Some(row);
+            }
         }
+        found
     }
 
     /// Whether two nodes are one.
     pub(crate) fn is(self, other: Node) -> bool {
-        self.column == other.column
-            && (self.column == 0 || (0..ROWS).all(|row| self.has(row) == other.has(row)))
+        self.column == other.column && (self.column == 0 || self.rows == other.rows)
     }
 }

@@ -1,167 +1,143 @@
 //! The text of a program.
 
-use crate::actions::{Manner, rung_text};
 use crate::declaring::add_declarations;
 use crate::form::Form;
-use crate::guards::{are_same_flags, flag_of, flags_over, jumps_of};
+use crate::jumps::{are_alike, are_over, flag_of, is_over, jumps_of};
 use crate::names::Names;
-use crate::piece::{Piece, inverse, positive};
-use crate::statements::Style;
+use crate::paragraphs::Paragraphs;
+use crate::piece::{Piece, positive};
+use crate::rung::Rung;
 use crate::symbol::Symbol;
+use crate::table::{Part, Table};
 use crate::text::Text;
 use diagram_program::Program;
 use diagram_program::gates::Leap;
 use std::alloc::{AllocError, Global};
 
-/// Statements of several rungs, with a blank line where one of two neighbours has more than one line.
-#[derive(Drop)]
-struct Paragraphs {
-    text: Text,
-    /// How many lines the last one has.
-    last: usize,
-}
-
-impl Paragraphs {
-    /// None.
-    fn new(alloc: Global) -> Paragraphs {
-        Paragraphs {
-            text: Text::new(alloc),
-            last: 0,
-        }
-    }
-
-    /// Adds one, unless it has no lines.
-    fn add(&mut self, paragraph: Text) {
-        let lines = paragraph.lines();
-        if lines == 0 {
-            return;
-        }
-        if self.last > 0 && lines.max(self.last) > 1 {
-            self.text.end_line();
-        }
-        self.text.add_text(paragraph);
-        self.last = lines;
-    }
-}
-
 /// The statements of all rungs, while they are written.
 #[derive(Drop)]
 struct Course<'p> {
-    alloc: Global,
-    program: &'p Program,
-    jumps: Vec<Leap>,
-    spelled: bool,
-    /// The flags of the jumps that pass over the rungs at hand.
-    flags: Vec<usize>,
-    /// Those rungs.
+    jumps: Table<Leap>,
+    rung: Rung<'p>,
+    /// The statements that come next.
+    text: Text,
+    /// The rungs at hand that jumps pass over.
     guarded: Paragraphs,
     paragraphs: Paragraphs,
 }
 
-/// Where one of several jumps was taken.
-fn is_taken(alloc: Global, flags: &[usize]) -> Result<Vec<Piece>, AllocError> {
-    let mut pieces = Vec::new(alloc);
-    for (number, flag) in flags.iter().enumerate() {
-        if number > 0 {
-            pieces.push(Piece::Or)?;
+/// Adds where a jump was taken that passes over a rung.
+fn taken(pieces: &mut Table<Piece>, jumps: &[Leap], rung: usize) -> Part {
+    let from = pieces.len();
+    for (number, jump) in jumps.iter().enumerate() {
+        if is_over(jump, rung) {
+            if pieces.len() > from {
+                pieces.push(Piece::Or);
+            }
+            pieces.push(positive(Symbol::Flag(number)));
         }
-        pieces.push(positive(Symbol::Flag(*flag)))?;
     }
-    Ok(pieces)
-}
-
-/// Rungs that jumps pass over, in an `IF`.
-fn guarded_text(
-    alloc: Global,
-    names: &Names,
-    flags: &[usize],
-    guarded: Paragraphs,
-) -> Result<Text, AllocError> {
-    let Paragraphs { text: inner, last } = guarded;
-    let style = Style { names, indent: 0 };
-    let taken = is_taken(alloc, flags)?;
-    let mut text = Text::new(alloc);
-    text.add(b"IF ");
-    style.expression(&mut text, &inverse(alloc, &taken)?);
-    text.end_with(b" THEN");
-    if last == 0 {
-        text.end_with(b"  ;");
-    }
-    text.add_text(inner);
-    text.end_with(b"END_IF;");
-    Ok(text)
+    pieces.since(from)
 }
 
 impl Course<'_> {
     /// Writes that no jump was taken yet.
-    fn write_start(&mut self, names: &Names) {
-        let style = Style { names, indent: 0 };
-        let mut text = Text::new(self.alloc);
+    fn write_start(&mut self) {
         for number in 0..self.jumps.len() {
-            style.assign(&mut text, Symbol::Flag(number), &[Piece::Constant(false)]);
+            let (style, symbol) = (self.rung.style(), Symbol::Flag(number));
+            style.assign(&mut self.text, symbol, &[Piece::Constant(false)]);
         }
-        self.paragraphs.add(text);
+        self.paragraphs.add(&self.text);
     }
 
-    /// Writes the rungs at hand, if jumps pass over them.
-    fn write_guarded(&mut self, names: &Names) -> Result<(), AllocError> {
-        let guarded = std::mem::replace(&mut self.guarded, Paragraphs::new(self.alloc));
-        if !self.flags.is_empty() {
-            let text = guarded_text(self.alloc, names, &self.flags, guarded)?;
-            self.paragraphs.add(text);
+    /// Writes the rungs at hand in an `IF`, if jumps pass over them. One of them is given.
+    fn write_guarded(&mut self, rung: usize) {
+        if !are_over(self.jumps.items(), rung) {
+            return;
         }
-        Ok(())
+        let expressions = &mut self.rung.expressions;
+        let taken = taken(&mut expressions.pieces, self.jumps.items(), rung);
+        let condition = expressions.inverse(taken);
+        self.rung.indent = 0;
+        self.text.clear();
+        self.text.add(b"IF ");
+        let style = self.rung.style();
+        style.expression(&mut self.text, self.rung.pieces(condition));
+        self.text.end_with(b" THEN");
+        self.guarded.add_inner(&mut self.text);
+        self.text.end_with(b"END_IF;");
+        self.paragraphs.add(&self.text);
     }
 
-    /// Writes a rung, and gives the names with those of its helpers.
-    fn write_rung(&mut self, names: Names, rung: usize) -> Result<Names, AllocError> {
-        let flags = flags_over(self.alloc, &self.jumps, rung)?;
-        if !are_same_flags(&flags, &self.flags) {
-            self.write_guarded(&names)?;
-            self.flags = flags;
+    /// Writes a rung.
+    fn write_rung(&mut self, program: &Program, rung: usize) {
+        let before = rung.saturating_sub(1);
+        if !are_alike(self.jumps.items(), before, rung) {
+            self.write_guarded(before);
         }
-        let is_guarded = !self.flags.is_empty();
-        let manner = Manner {
-            indent: if is_guarded { 2 } else { 0 },
-            spelled: self.spelled,
-            flag: flag_of(&self.jumps, rung),
-        };
-        let (text, names) = rung_text(self.alloc, self.program, names, rung, manner)?;
+        let is_guarded = are_over(self.jumps.items(), rung);
+        let indent = if is_guarded { 2 } else { 0 };
+        let flag = flag_of(self.jumps.items(), rung);
+        self.rung.write(program, rung, indent, flag);
+        self.text.clear();
+        self.rung.add_to(&mut self.text);
         if is_guarded {
-            self.guarded.add(text);
+            self.guarded.add(&self.text);
         } else {
-            self.paragraphs.add(text);
+            self.paragraphs.add(&self.text);
         }
-        Ok(names)
+    }
+
+    /// Writes all rungs.
+    fn write(&mut self, program: &Program) {
+        self.write_start();
+        for rung in 0..program.rungs() {
+            self.write_rung(program, rung);
+        }
+        self.write_guarded(program.rungs().saturating_sub(1));
+    }
+
+    /// Adds the whole text of a program.
+    fn add_to(&self, out: &mut Text, program: &Program, form: Form<'_>) {
+        add_declarations(out, program, &self.rung.names, form);
+        out.end_line();
+        self.paragraphs.add_to(out);
+        out.end_with(b"END_PROGRAM");
+    }
+
+    /// Whether memory never ran out.
+    fn is_whole(&self) -> bool {
+        self.jumps.is_whole
+            && self.rung.is_whole()
+            && self.text.bytes.is_whole
+            && self.guarded.text.bytes.is_whole
+            && self.paragraphs.text.bytes.is_whole
     }
 }
 
-/// The statements of a program, and the names with those of the helpers.
-fn statements_of(
-    alloc: Global,
-    program: &Program,
-    names: Names,
-    jumps: Vec<Leap>,
-    spelled: bool,
-) -> Result<(Text, Names), AllocError> {
-    let mut names = names;
+/// The statements of a program.
+fn course_of<'p>(alloc: Global, program: &'p Program, form: Form<'p>) -> Course<'p> {
+    let jumps = jumps_of(alloc, program);
+    let mut names = Names::new(alloc, form.name, program.decls());
+    names.fill(form.titles, program.memories(), jumps.len());
     let mut course = Course {
-        alloc,
-        program,
         jumps,
-        spelled,
-        flags: Vec::new(alloc),
+        rung: Rung::new(alloc, names, form.codesys),
+        text: Text::new(alloc),
         guarded: Paragraphs::new(alloc),
         paragraphs: Paragraphs::new(alloc),
     };
-    course.write_start(&names);
-    for rung in 0..program.rungs() {
-        names = course.write_rung(names, rung)?;
-    }
-    course.write_guarded(&names)?;
-    let Course { paragraphs, .. } = course;
-    let Paragraphs { text, .. } = paragraphs;
-    Ok((text, names))
+    course.write(program);
+    course
+}
+
+/// The whole text of a program.
+fn text_of(alloc: Global, program: &Program, form: Form<'_>) -> Text {
+    let course = course_of(alloc, program, form);
+    let mut out = Text::new(alloc);
+    course.add_to(&mut out, program, form);
+    out.bytes.is_whole = course.is_whole() && out.bytes.is_whole;
+    out
 }
 
 /// The program as Structured Text.
@@ -170,16 +146,6 @@ fn statements_of(
 ///
 /// `AllocError` when out of memory.
 pub fn write_st(alloc: Global, program: &Program, form: Form<'_>) -> Result<Vec<u8>, AllocError> {
-    let jumps = jumps_of(alloc, program)?;
-    let decls = program.decls();
-    let mut names = Names::of(alloc, decls, form.titles)?;
-    names.add_states(alloc, decls, program.memories(), jumps.len())?;
-    let (statements, names) = statements_of(alloc, program, names, jumps, form.spelled)?;
-    let mut out = Text::new(alloc);
-    add_declarations(&mut out, program, &names, form);
-    out.end_line();
-    out.add_text(statements);
-    out.add(b"END_PROGRAM");
-    out.end_line();
-    out.end()
+    let Table { items, is_whole } = text_of(alloc, program, form).bytes;
+    if is_whole { Ok(items) } else { Err(AllocError) }
 }

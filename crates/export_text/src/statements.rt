@@ -14,7 +14,7 @@ const ARGUMENT: usize = 24;
 /// What statements are written with.
 #[derive(Clone, Copy)]
 pub(crate) struct Style<'n> {
-    pub names: &'n Names,
+    pub names: &'n Names<'n>,
     /// How many spaces each line begins with.
     pub indent: usize,
 }
@@ -25,14 +25,19 @@ fn is_operator(piece: Piece) -> bool {
 }
 
 impl Style<'_> {
+    /// How wide the name of a symbol is.
+    fn name_width(self, symbol: Symbol) -> usize {
+        let (name, suffix) = (self.names.name(symbol), self.names.suffix(symbol));
+        name.len().saturating_add(suffix.len())
+    }
+
     /// How wide a piece is.
     fn width(self, piece: Piece) -> usize {
         match piece {
             Piece::Constant(_) => 5,
-            Piece::Literal(literal) => {
-                let (word, suffix) = self.names.words(literal.symbol);
-                let width = word.len().saturating_add(suffix.len());
-                if literal.is_on {
+            Piece::Literal { symbol, is_on } => {
+                let width = self.name_width(symbol);
+                if is_on {
                     width
                 } else {
                     width.saturating_add(4)
@@ -70,30 +75,33 @@ impl Style<'_> {
 
     /// Adds the name of a symbol.
     pub(crate) fn name(self, out: &mut Text, symbol: Symbol) {
-        let (word, suffix) = self.names.words(symbol);
-        out.add(word);
-        out.add(suffix);
+        out.add(self.names.name(symbol));
+        out.add(self.names.suffix(symbol));
+    }
+
+    /// Adds a piece of an expression, before others.
+    fn piece(self, out: &mut Text, piece: Piece, behind: &[Piece]) {
+        match piece {
+            Piece::Constant(true) => out.add(b"TRUE"),
+            Piece::Constant(false) => out.add(b"FALSE"),
+            Piece::Literal { symbol, is_on } => {
+                if !is_on {
+                    out.add(b"NOT ");
+                }
+                self.name(out, symbol);
+            }
+            Piece::And => self.operator(out, b"AND", behind),
+            Piece::Or => self.operator(out, b"OR", behind),
+            Piece::Open => out.add(b"("),
+            Piece::Close => out.add(b")"),
+            Piece::Not => out.add(b"NOT "),
+        }
     }
 
     /// Adds an expression.
     pub(crate) fn expression(self, out: &mut Text, pieces: &[Piece]) {
-        for (number, piece) in pieces.iter().enumerate() {
-            let (_, behind) = pieces.split_at(number.saturating_add(1).min(pieces.len()));
-            match piece {
-                Piece::Constant(true) => out.add(b"TRUE"),
-                Piece::Constant(false) => out.add(b"FALSE"),
-                Piece::Literal(literal) => {
-                    if !literal.is_on {
-                        out.add(b"NOT ");
-                    }
-                    self.name(out, literal.symbol);
-                }
-                Piece::And => self.operator(out, b"AND", behind),
-                Piece::Or => self.operator(out, b"OR", behind),
-                Piece::Open => out.add(b"("),
-                Piece::Close => out.add(b")"),
-                Piece::Not => out.add(b"NOT "),
-            }
+        for number in 0..pieces.len() {
+            self.piece(out, pieces[number], &pieces[number + 1..]);
         }
     }
 
@@ -129,13 +137,6 @@ impl Style<'_> {
         out.add(if is_set { b" := TRUE;" } else { b" := FALSE;" });
     }
 
-    /// Adds the name of an instance.
-    pub(crate) fn instance(self, out: &mut Text, number: usize) {
-        if let Some(word) = self.names.instances.get(number) {
-            out.add(word);
-        }
-    }
-
     /// Adds an argument of a call.
     pub(crate) fn argument(self, out: &mut Text, input: &[u8], pieces: &[Piece]) {
         out.add(input);
@@ -145,8 +146,7 @@ impl Style<'_> {
 
     /// How much room is left in the line beside the name of a symbol.
     pub(crate) fn room(self, out: &Text, symbol: Symbol) -> usize {
-        let (word, suffix) = self.names.words(symbol);
-        let width = out.width().saturating_add(word.len());
-        WIDTH.saturating_sub(width.saturating_add(suffix.len()))
+        let width = out.width().saturating_add(self.name_width(symbol));
+        WIDTH.saturating_sub(width)
     }
 }

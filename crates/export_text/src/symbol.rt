@@ -1,7 +1,7 @@
 //! What names stand for.
 
 /// What a name of the text stands for, by its number.
-#[derive(Clone, Copy, PartialEq, Eq)]
+#[derive(Clone, Copy, PartialEq)]
 pub(crate) enum Symbol {
     /// A variable of the program.
     Variable(usize),

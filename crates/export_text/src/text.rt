@@ -1,32 +1,39 @@
 //! A text as it is written.
 
+use crate::table::Table;
 use itoa::Buffer;
-use std::alloc::{AllocError, Global};
+use std::alloc::Global;
 
 /// A text that is written. Once memory has run out, nothing more is added to it.
 #[derive(Drop)]
 pub(crate) struct Text {
-    bytes: Vec<u8>,
+    pub bytes: Table<u8>,
     /// Where the last line begins.
     line: usize,
-    added: Result<(), AllocError>,
+    /// How many lines were ended.
+    pub lines: usize,
 }
 
 impl Text {
     /// A text of no bytes.
     pub(crate) fn new(alloc: Global) -> Text {
         Text {
-            bytes: Vec::new(alloc),
+            bytes: Table::new(alloc),
             line: 0,
-            added: Ok(()),
+            lines: 0,
         }
     }
 
-    /// Adds bytes, unless memory runs out: then the end of the text says so.
+    /// Takes all away.
+    pub(crate) fn clear(&mut self) {
+        self.bytes.truncate(0);
+        self.line = 0;
+        self.lines = 0;
+    }
+
+    /// Adds bytes.
     pub(crate) fn add(&mut self, bytes: &[u8]) {
-        if self.added.is_ok() {
-            self.added = self.bytes.extend_from_slice(bytes);
-        }
+        self.bytes.add(bytes);
     }
 
     /// Adds a number in decimal.
@@ -46,6 +53,7 @@ impl Text {
     pub(crate) fn end_line(&mut self) {
         self.add(b"\n");
         self.line = self.bytes.len();
+        self.lines = self.lines.saturating_add(1);
     }
 
     /// Adds bytes, and ends the line.
@@ -59,29 +67,10 @@ impl Text {
         self.bytes.len().saturating_sub(self.line)
     }
 
-    /// How many lines were ended.
-    pub(crate) fn lines(&self) -> usize {
-        self.bytes.iter().filter(|byte| **byte == b'\n').count()
-    }
-
     /// Adds the lines of another text.
-    pub(crate) fn add_text(&mut self, other: Text) {
-        match other.end() {
-            Ok(bytes) => self.add(&bytes),
-            Err(error) => self.added = Err(error),
-        }
+    pub(crate) fn add_text(&mut self, other: &Text) {
+        self.add(other.bytes.items());
         self.line = self.bytes.len();
-    }
-
-    /// The bytes of the text.
-    ///
-    /// # Errors
-    ///
-    /// `AllocError` when memory had run out.
-    pub(crate) fn end(self) -> Result<Vec<u8>, AllocError> {
-        match self.added {
-            Ok(()) => Ok(self.bytes),
-            Err(error) => Err(error),
-        }
+        self.lines = self.lines.saturating_add(other.lines);
     }
 }

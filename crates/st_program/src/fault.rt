@@ -9,7 +9,7 @@ use std::alloc::{AllocError, AllocFailed};
 use thiserror::Error;
 
 /// Which word is due at a place.
-#[derive(Clone, Copy, Debug, PartialEq, Eq)]
+#[derive(Clone, Copy, Debug)]
 pub enum Expected {
     Mark(Mark),
     /// A name that can be declared: a letter or an underscore, then letters, digits and underscores, and no keyword.
@@ -36,7 +36,7 @@ pub enum Expected {
 }
 
 /// Why words are no program, and the place of the word where that is seen; None at the end of the text.
-#[derive(Clone, Copy, Debug, PartialEq, Eq, Error)]
+#[derive(Clone, Copy, Debug, Error)]
 pub enum Refusal {
     #[error("out of memory")]
     Memory,
@@ -102,7 +102,7 @@ impl<T: Drop> From<AllocFailed<T>> for Refusal {
 }
 
 /// Why a text is no program.
-#[derive(Clone, Copy, Debug, PartialEq, Eq, Error)]
+#[derive(Clone, Copy, Debug, Error)]
 pub enum StFault {
     /// No word begins at this place, and no comment that has an end.
     #[error("a character that isn't allowed here, or a comment with no end")]

@@ -6,7 +6,7 @@ ghost use Rattle.st_program.specs.Formals.{bistable_role, block_role, counter_ro
 use diagram_declarations::{BlockKind, same_letters};
 
 /// What a word is as the name of an input, a preset or an output.
-#[derive(Clone, Copy, Debug, PartialEq, Eq)]
+#[derive(Clone, Copy)]
 pub(crate) enum Formal {
     Clk,
     In,

@@ -27,7 +27,7 @@ use st_words::{Word, WordFault, read_words};
 use std::alloc::{AllocError, Global};
 
 /// A timer, a counter or a bistable.
-#[derive(Clone, Copy, Debug, PartialEq, Eq)]
+#[derive(Clone, Copy)]
 pub struct StInstance {
     pub name: Word,
     pub kind: BlockKind,

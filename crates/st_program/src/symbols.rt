@@ -15,7 +15,7 @@ use st_words::Word;
 pub const MOST_NAMES: usize = 1000;
 
 /// What opens the declarations of a variable.
-#[derive(Clone, Copy, Debug, PartialEq, Eq)]
+#[derive(Clone, Copy, PartialEq, Eq)]
 pub enum Section {
     /// `VAR`
     Local,
@@ -26,7 +26,7 @@ pub enum Section {
 }
 
 /// What a variable is.
-#[derive(Clone, Copy, Debug, PartialEq, Eq)]
+#[derive(Clone, Copy, PartialEq, Eq)]
 pub enum Sort {
     Bool,
     /// An `R_TRIG`, whose variable is its output.
@@ -38,7 +38,7 @@ pub enum Sort {
 }
 
 /// A variable, or the output of a trigger.
-#[derive(Clone, Copy, Debug, PartialEq, Eq)]
+#[derive(Clone, Copy)]
 pub struct StVariable {
     pub name: Word,
     pub section: Section,

@@ -136,7 +136,7 @@ END_VAR
 |----| |---------(S)----
 ";
 
-const WRITTEN_PUMP: &[u8] = b"PROGRAM pump
+const WRITTEN_PUMP: &[u8] = b"PROGRAM tank
 VAR
   Level AT %IX0.0 : BOOL;
   HandPushButton AT %IX1.1 : BOOL;
@@ -155,9 +155,9 @@ END_PROGRAM
 /// The text of a drawing, or why there is none; `NotFaithful` where the drawing is no program.
 fn exported(alloc: Global, text: &[u8], bits: bool) -> Result<Vec<u8>, ExportFault> {
     let form = Form {
-        name: b"pump",
+        name: b"tank",
         bits,
-        spelled: bits,
+        codesys: bits,
         titles: bits,
     };
     match read_titled_program(alloc, text) {

@@ -2,4 +2,4 @@
 use Rattle.cli_options.proofs.command.ladder.Goals as goal
 
 pub returns : goal.returns
-returns c = c.with_subcommands.ensures _ c.in_ok-continued.ensures
+returns c = c.with_subcommands.ensures _ c.in_ok-searching.ensures

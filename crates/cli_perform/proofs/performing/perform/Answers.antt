@@ -88,3 +88,12 @@ returns-in-Draw-clause-done g c = λ status.
 
 pub returns-in-Draw-clause-failed : goal.returns-in-Draw-clause-failed
 returns-in-Draw-clause-failed g c = λ status. rw c.in-Draw.is (inr (c.draw_text.ensures.failed status, refl))
+
+pub returns-in-Export-clause-done : goal.returns-in-Export-clause-done
+returns-in-Export-clause-done g c = λ status.
+    let done = c.export_text.ensures.done status in
+    rw c.in-Export.is (done.0, refl, done.1)
+
+pub returns-in-Export-clause-failed : goal.returns-in-Export-clause-failed
+returns-in-Export-clause-failed g c = λ status.
+    rw c.in-Export.is (with_third refl (c.export_text.ensures.failed (g.S.Sink.log c.args.save.now) status))

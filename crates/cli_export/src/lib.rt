@@ -1,0 +1,7 @@
+//! The request `export`: a ladder program as Structured Text, or the line that says why there is none.
+#![tactic(auto)]
+
+mod exporting;
+mod lines;
+
+pub use exporting::{Exporting, write_export};

@@ -1,0 +1,3 @@
+pub mod Doing
+pub mod Laws
+pub mod Runs

@@ -1,0 +1,5 @@
+mod Runs
+mod Productions
+mod Ends
+mod Adding
+mod Growing
