@@ -50,6 +50,7 @@ test:
 	  "python3 tests/judging.py $(PROGRAM) 300" \
 	  "python3 tests/judging_runs.py $(PROGRAM) 150" \
 	  "python3 tests/importing.py $(PROGRAM) 200" \
+	  "python3 tests/networks.py $(PROGRAM) 200" \
 	  "python3 tests/statements.py $(PROGRAM) 200 200" \
 	  "python3 tests/exporting.py $(PROGRAM) 200"
 	python3 tests/growth.py $(PROGRAM)

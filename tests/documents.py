@@ -40,8 +40,8 @@ FAULTS = "docs/user/faults.md"
 SUBCOMMANDS = ["check", "causes", "show", "sim", "uses", "never", "reach", "diff", "draw", "export", "import", "explain"]
 # the faults that a text or a command can show, and those that have a section alone
 SHOWN = [f"V{number}" for number in range(1, 9)] + ["A1"] + [f"G{number}" for number in range(1, 16)]
-SHOWN += [f"C{number}" for number in range(1, 7)] + ["C8"] + [f"X{number}" for number in range(1, 7)] + [f"P{number}" for number in range(1, 7)] + ["E1", "E2", "usage"]
-TOLD = ["V9", "C7", "S1", "X7", "P7", "P8", "E3", "E4"]
+SHOWN += [f"C{number}" for number in range(1, 7)] + ["C8"] + [f"X{number}" for number in range(1, 7)] + [f"P{number}" for number in range(1, 7)] + [f"N{number}" for number in range(1, 6)] + ["E1", "E2", "usage"]
+TOLD = ["V9", "C7", "S1", "X7", "P7", "P8", "N6", "N7", "E3", "E4"]
 # the folders whose paths are looked for
 FOLDERS = ["bench", "completions", "crates", "docs", "examples", "man", "share", "tests", "tools"]
 WORDS = ["one", "two", "three", "four", "five", "six", "seven", "eight", "nine", "ten", "eleven", "twelve", "thirteen", "fourteen", "fifteen",
@@ -214,7 +214,7 @@ def transcript(name, start, words, lines, folder, tools, tally, status):
 
 def compare_sections(name, text, blocks, tally):
     """Each fault has a section; its first fault is the one of the heading, and what is corrected has none."""
-    heads = [(number, line[3:].split()[0].rstrip(":")) for number, line in enumerate(text.splitlines(), 1) if re.match(r"## ([VAGCXSPE]\d|usage)", line)]
+    heads = [(number, line[3:].split()[0].rstrip(":")) for number, line in enumerate(text.splitlines(), 1) if re.match(r"## ([VAGCXSPNE]\d|usage)", line)]
     tally.compare(f"{name}: the faults that have a section", sorted(code for _, code in heads), sorted(SHOWN + TOLD))
     ends = [number for number, _ in heads[1:]] + [len(text.splitlines()) + 1]
     for (first, code), end in zip(heads, ends):

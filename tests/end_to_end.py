@@ -88,12 +88,18 @@ def assignments(count):
     return "".join(f"Y := {'AB'[number % 2]};\n" for number in range(int(count)))
 
 
+def repeated(words):
+    """A number, and a line that is there so many times."""
+    number, _, text = words.partition(" ")
+    return f"{text}\n" * int(number)
+
+
 def line(words):
     """These words as they stand."""
     return f"{words}\n"
 
 
-MAKERS = (spaces, filled_motor, inputs, variables, timers, rungs, coils, assignments, line)
+MAKERS = (spaces, filled_motor, inputs, variables, timers, rungs, coils, assignments, repeated, line)
 GENERATORS = {maker.__name__: maker for maker in MAKERS}
 
 

@@ -22,6 +22,8 @@ TEXTS = {
     "either.ld": (HERE / "programs" / "motor.ld").read_bytes().replace(b"|/|", b"| |"),
     "rhythm.ld": (HERE / "programs" / "rhythm.ld").read_bytes(),
     "motor.st": (HERE / "texts" / "motor.st").read_bytes(),
+    "lamp.xml": (HERE / "projects" / "lamp.xml").read_bytes(),
+    "edge.xml": (HERE / "projects" / "lamp.xml").read_bytes().replace(b"<coil ", b"<coil edge='rising' "),
     "wrong.st": (HERE / "texts" / "motor.st").read_bytes().replace(b"NOT Stop", b"NOT Halt"),
     "running.csv": b"version,2\nmoment,10\nvar,Start,0\nvar,Stop,0\nvar,Motor,1\n",
     "stimulus.csv": b"moment,Start,Stop\n0,1,0\n10,0,0\n",
@@ -32,6 +34,8 @@ LIST = ("--state", "running.csv", "motor.ld", "Motor", "Start", "Stop")
 REQUESTS = (
     (("check", "motor.ld"), 0),
     (("uses", "motor.ld"), 0),
+    (("import", "lamp.xml"), 0),
+    (("import", "--why", "edge.xml"), 1),
     (("draw", "motor.st"), 0),
     (("draw", "--why", "wrong.st"), 1),
     (("export", "--st", "motor.ld"), 0),

@@ -18,6 +18,7 @@ SOURCE = ROOT / "crates" / "cli_options" / "src"
 # the parts of the document that have codes, and the file of each
 FILES = {"Declarations": "declarations", "The drawing": "drawing", "Questions to `causes`": "questions",
          "Files, arguments and writers": "files", "Projects of ClassicLadder": "projects",
+         "Projects in PLCopen XML": "units",
          "Programs in Structured Text": "statements",
          "Exports": "exports",
          "Words": "words"}

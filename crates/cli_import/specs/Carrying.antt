@@ -1,5 +1,5 @@
 -- How `ladder import` ends: the program text of the project is written, or what is said of why there is none.
-use Rattle.std.specs.Prelude.{◌≡◌, ◌⊎◌, ◌≤◌, All, ℕ, Bool, List, length}
+use Rattle.std.specs.Prelude.{◌≡◌, ◌⊎◌, ◌≤◌, All, ℕ, Bool, true, false, List, length}
 use Rattle.clp_project.specs.Project.{IsProject, IsRight}
 use Rattle.clp_project.specs.declared.fault.ClpFault.{ClpFault}
 use Rattle.clp_project.specs.declared.project.Project.{Project}
@@ -11,10 +11,12 @@ use Rattle.clp_import.specs.declared.refusal.Refusal.{Refusal}
 use Rattle.cli_inputs.specs.Reports.{IsReported, unread}
 use Rattle.cli_inputs.specs.declared.fault.ToolFault.TheVariants as fault
 use Rattle.io_text.specs.Log.{PutsAll, PutsPrefix, WriteLog}
+use Rattle.cli_plc.specs.Kind.{is_xml}
+use Rattle.cli_plc.specs.Units.{BreaksUnit, CarriesUnit}
 use Rattle.cli_import.specs.Lines.{import_text, project_text, refusals_text}
 
 -- The text is that of a project, as it is read, and a program text of it is written, whole or as far as `Written` says.
-pub record Carries (reading : ReadingOptions) (text : List ℕ) (Written : List ℕ → Type 0) : Type 0 where
+pub record CarriesProject (reading : ReadingOptions) (text : List ℕ) (Written : List ℕ → Type 0) : Type 0 where
   pub project : Project
   pub is : IsProject reading text project
   pub drawn : List ℕ
@@ -42,6 +44,17 @@ pub record Says (reading : ReadingOptions) (why : Bool) (text : List ℕ) (old n
   pub written : PutsAll old new said ⊎ PutsPrefix old new said
 
 -- Status 1: there is no program text, and nothing is on `out`; or `out` failed.
+abbrev pub BreaksProject : ReadingOptions → Bool → List ℕ → WriteLog → WriteLog → WriteLog → WriteLog → Type 0
+BreaksProject reading why text out out' err err' =
+    ((out' ≡ out) × Says reading why text err err') ⊎ (CarriesProject reading text (PutsPrefix out out') × IsReported (unread why) err err' fault.Write)
+
+-- ---- both kinds of projects, which are told apart by their first bytes
+
+-- A text that begins as XML does is one of PLCopen XML, and any other one of ClassicLadder.
+abbrev pub Carries : ReadingOptions → List ℕ → (List ℕ → Type 0) → Type 0
+Carries reading text Written =
+    ((is_xml text ≡ false) × CarriesProject reading text Written) ⊎ ((is_xml text ≡ true) × CarriesUnit text Written)
+
 abbrev pub BreaksCarrying : ReadingOptions → Bool → List ℕ → WriteLog → WriteLog → WriteLog → WriteLog → Type 0
 BreaksCarrying reading why text out out' err err' =
-    ((out' ≡ out) × Says reading why text err err') ⊎ (Carries reading text (PutsPrefix out out') × IsReported (unread why) err err' fault.Write)
+    ((is_xml text ≡ false) × BreaksProject reading why text out out' err err') ⊎ ((is_xml text ≡ true) × BreaksUnit why text out out' err err')

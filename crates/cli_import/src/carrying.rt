@@ -4,10 +4,11 @@ ghost use Rattle.std.specs.Prelude.{◌≡◌, ◌≤◌, IfErr, IfOk};
 ghost use Rattle.clp_project.specs.Project.{IsProject};
 ghost use Rattle.clp_import.specs.Import.{HasText, IsFaultOfAny};
 ghost use Rattle.io_text.specs.Log.{PutsAll};
-ghost use Rattle.cli_import.specs.Carrying.{BreaksCarrying, Carries};
+ghost use Rattle.cli_import.specs.Carrying.{BreaksCarrying, BreaksProject, Carries, CarriesProject};
 
 use crate::faults::{write_import_fault, write_project_fault, write_refusals};
 use cli_inputs::{ToolFault, report_unread};
+use cli_plc::{is_xml, write_unit};
 use clp_import::{ImportFault, Linked, import, refusals};
 use clp_project::{Project, ReadingOptions, joined, links_in, read_project};
 use io_text::{Sink, WriteFault, put};
@@ -61,8 +62,8 @@ fn carry_whole<O: Sink, E: Sink>(
 ) -> u8
     requires { IsProject options.reading text.now project.now }
     ensures status { result ≤ 1 }
-    ensures done { result ≡ 0 → Carries options.reading text.now (PutsAll (O.log out.old) (O.log out.new)) × (E.log err.new ≡ E.log err.old) }
-    ensures failed { result ≡ 1 → BreaksCarrying options.reading options.why text.now (O.log out.old) (O.log out.new) (E.log err.old) (E.log err.new) }
+    ensures done { result ≡ 0 → CarriesProject options.reading text.now (PutsAll (O.log out.old) (O.log out.new)) × (E.log err.new ≡ E.log err.old) }
+    ensures failed { result ≡ 1 → BreaksProject options.reading options.why text.now (O.log out.old) (O.log out.new) (E.log err.old) (E.log err.new) }
 {
     match text_of(alloc, options.reading, project, hal) {
         Ok(drawn) => match put(out, &drawn) {
@@ -85,8 +86,8 @@ fn carry_project<O: Sink, E: Sink>(
 ) -> u8
     requires { IsProject options.reading text.now project.now }
     ensures status { result ≤ 1 }
-    ensures done { result ≡ 0 → Carries options.reading text.now (PutsAll (O.log out.old) (O.log out.new)) × (E.log err.new ≡ E.log err.old) }
-    ensures failed { result ≡ 1 → BreaksCarrying options.reading options.why text.now (O.log out.old) (O.log out.new) (E.log err.old) (E.log err.new) }
+    ensures done { result ≡ 0 → CarriesProject options.reading text.now (PutsAll (O.log out.old) (O.log out.new)) × (E.log err.new ≡ E.log err.old) }
+    ensures failed { result ≡ 1 → BreaksProject options.reading options.why text.now (O.log out.old) (O.log out.new) (E.log err.old) (E.log err.new) }
 {
     match refusals(alloc, options.reading, project) {
         Ok(refused) => {
@@ -99,9 +100,33 @@ fn carry_project<O: Sink, E: Sink>(
     }
 }
 
-/// Writes the program text of a ClassicLadder project on `out`, or on `err` what is said of why there is none: a line for each element
-/// that can't be carried over, or the line of another fault, each explained where that is asked for. The text of a HAL file, empty where
-/// there is none, gives names to inputs and outputs. Returns the status: 0 where the whole text was written, or 1.
+/// Writes the program text of a ClassicLadder project, or what is said of why there is none.
+fn carry_clp<O: Sink, E: Sink>(
+    alloc: Global,
+    reading: ReadingOptions,
+    why: bool,
+    text: &[u8],
+    hal: &[u8],
+    out: &mut O,
+    err: &mut E,
+) -> u8
+    ensures status { result ≤ 1 }
+    ensures done { result ≡ 0 → CarriesProject reading text.now (PutsAll (O.log out.old) (O.log out.new)) × (E.log err.new ≡ E.log err.old) }
+    ensures failed { result ≡ 1 → BreaksProject reading why text.now (O.log out.old) (O.log out.new) (E.log err.old) (E.log err.new) }
+{
+    match read_project(alloc, reading, text) {
+        Ok(project) => {
+            let options = ImportOptions { reading, why };
+            carry_project(alloc, options, text, &project, hal, out, err)
+        }
+        Err(fault) => told(write_project_fault(why, fault, err)),
+    }
+}
+
+/// Writes the program text of a project on `out`, or on `err` what is said of why there is none. A text that begins as XML does is a project in
+/// PLCopen XML, whose only program is carried over; any other is one of ClassicLadder: there is a line for each element that can't be carried
+/// over, or the line of another fault, each explained where that is asked for. The text of a HAL file, empty where there is none, gives names to
+/// inputs and outputs of a ClassicLadder project. Returns the status: 0 where the whole text was written, or 1.
 pub fn carry<O: Sink, E: Sink>(
     alloc: Global,
     reading: ReadingOptions,
@@ -115,11 +140,8 @@ pub fn carry<O: Sink, E: Sink>(
     ensures done { result ≡ 0 → Carries reading text.now (PutsAll (O.log out.old) (O.log out.new)) × (E.log err.new ≡ E.log err.old) }
     ensures failed { result ≡ 1 → BreaksCarrying reading why text.now (O.log out.old) (O.log out.new) (E.log err.old) (E.log err.new) }
 {
-    match read_project(alloc, reading, text) {
-        Ok(project) => {
-            let options = ImportOptions { reading, why };
-            carry_project(alloc, options, text, &project, hal, out, err)
-        }
-        Err(fault) => told(write_project_fault(why, fault, err)),
+    if is_xml(text) {
+        return write_unit(alloc, why, text, out, err);
     }
+    carry_clp(alloc, reading, why, text, hal, out, err)
 }

@@ -42,6 +42,7 @@ pub(crate) const EXPORT: &str = "Examples:
 
 pub(crate) const IMPORT: &str = "Examples:
   ladder import plant.clp > plant.ld                  from ClassicLadder
+  ladder import plant.xml > plant.ld                  from PLCopen XML
   ladder import --hal plant.hal plant.clp > plant.ld  with its pins";
 
 pub(crate) const EXPLAIN: &str = "Examples:

@@ -15,6 +15,7 @@ pub(crate) const FAULTS: &str =
               X6: a write failed; X7: out of memory
   P1 to P8    the file is no project of ClassicLadder, or has what can't be
               carried over
+  N1 to N7    the same of a project in PLCopen XML
   T1 to T10   the text is no program in Structured Text, or can't be drawn
   E1 to E4    there is no such text of the program in Structured Text
   usage       the words are not those of a request
@@ -173,8 +174,8 @@ pub(crate) const EXPORT_ABOUT: &str =
 its statements does what a scan of the drawing does";
 
 pub(crate) const IMPORT_ABOUT: &str =
-    "Writes the program text of a ClassicLadder project, or says what of
-it can't be carried over";
+    "Writes the program text of a project of ClassicLadder, or of one in
+PLCopen XML, or says what of it can't be carried over";
 
 pub(crate) const EXPLAIN_ABOUT: &str =
     "Says what a fault means and what corrects it, or lists all faults";
@@ -233,8 +234,8 @@ RESET1, as CODESYS does";
 pub(crate) const EXPORT_ALIASES_HELP: &str = "Takes the aliases for names where they can be names,
 and else writes them as comments";
 
-pub(crate) const PROJECT_HELP: &str = "The ClassicLadder project, a .clp file; at most
-1048576 bytes";
+pub(crate) const PROJECT_HELP: &str = "The project, of ClassicLadder (.clp) or in PLCopen
+XML (.xml); at most 1048576 bytes";
 
 pub(crate) const OPEN_HELP: &str = "Compares and steps of charts may have any value";
 

@@ -13,6 +13,7 @@ mod pages;
 mod projects;
 mod questions;
 mod statements;
+mod units;
 mod words;
 
 pub use command::ladder;

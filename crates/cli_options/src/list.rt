@@ -1,18 +1,18 @@
 //! The codes of docs/user/faults.md, with their pages. `tests/pages.py --write` writes this file.
 
-use crate::{declarations, drawing, exports, files, projects, questions, statements, words};
+use crate::{declarations, drawing, exports, files, projects, questions, statements, units, words};
 
 /// The codes, in the order of the document.
-pub(crate) const CODES: [&str; 64] = [
+pub(crate) const CODES: [&str; 71] = [
     "V1", "V2", "V3", "V4", "V5", "V6", "V7", "V8", "V9", "A1", "G1", "G2", "G3", "G4", "G5", "G6",
     "G7", "G8", "G9", "G10", "G11", "G12", "G13", "G14", "G15", "C1", "C2", "C3", "C4", "C5", "C6",
     "C7", "C8", "S1", "X1", "X2", "X3", "X4", "X5", "X6", "X7", "P1", "P2", "P3", "P4", "P5", "P6",
-    "P7", "P8", "T1", "T2", "T3", "T4", "T5", "T6", "T7", "T8", "T9", "T10", "E1", "E2", "E3",
-    "E4", "usage",
+    "P7", "P8", "N1", "N2", "N3", "N4", "N5", "N6", "N7", "T1", "T2", "T3", "T4", "T5", "T6", "T7",
+    "T8", "T9", "T10", "E1", "E2", "E3", "E4", "usage",
 ];
 
 /// The page of each code.
-pub(crate) const PAGES: [&str; 64] = [
+pub(crate) const PAGES: [&str; 71] = [
     declarations::V1,
     declarations::V2,
     declarations::V3,
@@ -62,6 +62,13 @@ pub(crate) const PAGES: [&str; 64] = [
     projects::P6,
     projects::P7,
     projects::P8,
+    units::N1,
+    units::N2,
+    units::N3,
+    units::N4,
+    units::N5,
+    units::N6,
+    units::N7,
     statements::T1,
     statements::T2,
     statements::T3,
@@ -130,6 +137,13 @@ P5: a section whose rungs don't lead to its last
 P6: an element that can't be carried over
 P7: too many rungs, variables or blocks
 P8: the text isn't the project
+N1: this is no PLCopen project
+N2: this is no XML document that can be read
+N3: no program, or several
+N4: the program isn't a ladder diagram
+N5: what a program can't have
+N6: a program that would be too large
+N7: the drawing isn't the diagram
 T1: a character that isn't allowed here
 T2: another word is due
 T3: a name that isn't declared, or is declared twice

@@ -8,6 +8,3 @@ mod network;
 
 pub use following::is_fed;
 pub use network::{Element, Links, Network};
-
-#[cfg(test)]
-mod tests;

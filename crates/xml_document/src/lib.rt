@@ -18,6 +18,3 @@ pub use element::DEPTH;
 pub use fault::{Reason, XmlFault};
 pub use read::read_document;
 pub use tag::ATTRIBUTES;
-
-#[cfg(test)]
-mod tests;

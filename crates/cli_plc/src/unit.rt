@@ -1,0 +1,67 @@
+//! The import of a text in XML.
+
+ghost use Rattle.std.specs.Prelude.{◌≡◌, ◌≤◌};
+ghost use Rattle.xml_document.specs.Documents.{IsDocument};
+ghost use Rattle.xml_document.specs.Items.{items_of};
+ghost use Rattle.io_text.specs.Log.{PutsAll};
+ghost use Rattle.cli_plc.specs.Units.{BreaksUnit, CarriesUnit};
+
+use crate::lines::write_fault;
+use crate::xml::write_xml_fault;
+use cli_inputs::{ToolFault, report_unread};
+use io_text::{Sink, WriteFault, put};
+use plc_import::import_plc;
+use std::alloc::Global;
+use xml_document::{Document, read_document};
+
+/// The status 1 of a request that ends with a fault, once the writer took what it could of the report.
+fn told(written: Result<(), WriteFault>) -> u8
+    ensures { result ≡ 1 }
+{
+    match written {
+        Ok(()) => 1,
+        Err(_) => 1,
+    }
+}
+
+/// Writes the program text of a document, or what is said of why there is none.
+fn write_document<O: Sink, E: Sink>(
+    alloc: Global,
+    why: bool,
+    text: &[u8],
+    document: &Document,
+    out: &mut O,
+    err: &mut E,
+) -> u8
+    requires { IsDocument text.now (items_of document.now) }
+    ensures status { result ≤ 1 }
+    ensures done { result ≡ 0 → CarriesUnit text.now (PutsAll (O.log out.old) (O.log out.new)) × (E.log err.new ≡ E.log err.old) }
+    ensures failed { result ≡ 1 → BreaksUnit why text.now (O.log out.old) (O.log out.new) (E.log err.old) (E.log err.new) }
+{
+    match import_plc(alloc, document, None) {
+        Ok(drawn) => match put(out, &drawn) {
+            Ok(()) => 0,
+            Err(_) => report_unread(why, &ToolFault::Write, err),
+        },
+        Err(fault) => told(write_fault(why, document, fault, err)),
+    }
+}
+
+/// Writes the program text of the only program of a project in PLCopen XML on `out`, or on `err` the line of the fault for which there is none,
+/// explained where that is asked for. Returns the status: 0 where the whole text was written, or 1.
+pub fn write_unit<O: Sink, E: Sink>(
+    alloc: Global,
+    why: bool,
+    text: &[u8],
+    out: &mut O,
+    err: &mut E,
+) -> u8
+    ensures status { result ≤ 1 }
+    ensures done { result ≡ 0 → CarriesUnit text.now (PutsAll (O.log out.old) (O.log out.new)) × (E.log err.new ≡ E.log err.old) }
+    ensures failed { result ≡ 1 → BreaksUnit why text.now (O.log out.old) (O.log out.new) (E.log err.old) (E.log err.new) }
+{
+    match read_document(alloc, text) {
+        Ok(document) => write_document(alloc, why, text, &document, out, err),
+        Err(fault) => told(write_xml_fault(why, text, fault, err)),
+    }
+}

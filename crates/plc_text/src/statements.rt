@@ -1,0 +1,208 @@
+//! The text of a program.
+
+use crate::action::{Action, Deed};
+use crate::blocks::inputs_of;
+use crate::diagram::Diagram;
+use crate::fault::PlcFault;
+use crate::symbols::{List, Sort, Variable};
+use crate::text::Text;
+use network_check::{CoilKind, Effect};
+use network_power::Links;
+use xml_document::Span;
+use xml_parts::bytes_at;
+
+impl<'d> Diagram<'d> {
+    /// Writes the declaration of a variable.
+    fn write_variable(&self, out: &mut Text, variable: Variable) {
+        if matches!(variable.sort, Sort::Other) {
+            return;
+        }
+        let address = bytes_at(&self.document.bytes, variable.address);
+        out.add(b"  ");
+        out.add(bytes_at(&self.document.bytes, variable.name));
+        out.add_if(!address.is_empty(), b" AT ");
+        out.add(address);
+        out.add(b" : ");
+        match variable.sort {
+            Sort::Bool { initial, .. } => {
+                out.add(b"BOOL");
+                out.add_if(initial, b" := TRUE");
+            }
+            Sort::Block(instance) => out.add(instance.kind.traits().word),
+            Sort::Other => {}
+        }
+        out.add(b";\n");
+    }
+
+    /// Whether the text has a variable of a list.
+    fn has_declared(&self, list: List) -> bool {
+        for number in list.from..list.to {
+            if let Some(variable) = self.symbols.variables.at(number) {
+                if !matches!(variable.sort, Sort::Other) {
+                    return true;
+                }
+            }
+        }
+        false
+    }
+
+    /// Writes the declarations of a list, if there are any.
+    fn write_list(&self, out: &mut Text, list: List) {
+        if !self.has_declared(list) {
+            return;
+        }
+        out.add(list.word);
+        out.add(b"\n");
+        for number in list.from..list.to {
+            if let Some(variable) = self.symbols.variables.at(number) {
+                self.write_variable(out, variable);
+            }
+        }
+        out.add(b"END_VAR\n");
+    }
+
+    /// Writes the name of a program and its declarations.
+    fn write_head(&self, out: &mut Text, name: Span) {
+        let name = bytes_at(&self.document.bytes, name);
+        out.add(b"PROGRAM ");
+        out.add(name);
+        out.add_if(self.symbols.find(name).is_some(), b"_1");
+        out.add(b"\n");
+        for list in self.symbols.lists.items() {
+            self.write_list(out, *list);
+        }
+        out.add(b"\n");
+    }
+
+    /// Writes an assignment of the power, or of its inverse.
+    fn write_assignment(
+        &self,
+        out: &mut Text,
+        variable: usize,
+        inverse: bool,
+        left: Links,
+    ) -> Result<(), PlcFault> {
+        out.add(self.symbols.bool_name(variable));
+        out.add(b" := ");
+        out.add_if(inverse, b"NOT (");
+        self.write_power(out, left)?;
+        out.add_if(inverse, b")");
+        out.add(b";\n");
+        Ok(())
+    }
+
+    /// Writes an `IF` that switches a variable on, or off.
+    fn write_latch(
+        &self,
+        out: &mut Text,
+        variable: usize,
+        on: bool,
+        left: Links,
+    ) -> Result<(), PlcFault> {
+        out.add(b"IF ");
+        self.write_power(out, left)?;
+        out.add(b" THEN ");
+        out.add(self.symbols.bool_name(variable));
+        out.add(if on { b" := TRUE" } else { b" := FALSE" });
+        out.add(b"; END_IF;\n");
+        Ok(())
+    }
+
+    /// Writes an argument of a call, if the block has it.
+    fn write_argument(
+        &self,
+        out: &mut Text,
+        before: &[u8],
+        input: &[u8],
+        links: Links,
+    ) -> Result<(), PlcFault> {
+        if input.is_empty() {
+            return Ok(());
+        }
+        out.add(before);
+        out.add(input);
+        out.add(b" := ");
+        self.write_power(out, links)
+    }
+
+    /// Writes the preset of a call, if it has one.
+    fn write_preset(&self, out: &mut Text, input: &[u8], preset: Option<usize>) {
+        let Some(id) = preset else {
+            return;
+        };
+        if let Some(node) = self.nodes.at(id) {
+            out.add(b", ");
+            out.add(input);
+            out.add(b" := ");
+            out.add(self.word(node.inside, b"expression"));
+        }
+    }
+
+    /// Writes the call of a block.
+    fn write_call(
+        &self,
+        out: &mut Text,
+        instance: usize,
+        first: Links,
+        second: Links,
+        preset: Option<usize>,
+    ) -> Result<(), PlcFault> {
+        let Some(kind) = self.symbols.block(instance) else {
+            return Ok(());
+        };
+        let inputs = inputs_of(kind);
+        out.add(self.symbols.block_name(instance));
+        self.write_argument(out, b"(", inputs.first, first)?;
+        self.write_argument(out, b", ", inputs.second, second)?;
+        self.write_preset(out, inputs.preset, preset);
+        out.add(b");\n");
+        Ok(())
+    }
+
+    /// Writes an `IF` with a return.
+    fn write_return(&self, out: &mut Text, left: Links) -> Result<(), PlcFault> {
+        out.add(b"IF ");
+        self.write_power(out, left)?;
+        out.add(b" THEN RETURN; END_IF;\n");
+        Ok(())
+    }
+
+    /// Writes what an element does.
+    fn write_deed(&self, out: &mut Text, deed: Deed) -> Result<(), PlcFault> {
+        match deed.effect {
+            Effect::Coil {
+                variable,
+                kind,
+                left,
+            } => match kind {
+                CoilKind::Plain => self.write_assignment(out, variable, false, left),
+                CoilKind::Negated => self.write_assignment(out, variable, true, left),
+                CoilKind::Set => self.write_latch(out, variable, true, left),
+                CoilKind::Reset => self.write_latch(out, variable, false, left),
+            },
+            Effect::Call {
+                instance,
+                first,
+                second,
+            } => self.write_call(out, instance, first, second, deed.preset),
+            Effect::Return { left } => self.write_return(out, left),
+            // No element is one.
+            Effect::Trigger { .. } => Ok(()),
+        }
+    }
+
+    /// Writes the whole program.
+    pub(crate) fn write(
+        &self,
+        out: &mut Text,
+        name: Span,
+        ordered: &[Action],
+    ) -> Result<(), PlcFault> {
+        self.write_head(out, name);
+        for action in ordered {
+            self.write_deed(out, action.deed)?;
+        }
+        out.add(b"END_PROGRAM\n");
+        Ok(())
+    }
+}

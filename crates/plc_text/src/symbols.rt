@@ -1,0 +1,342 @@
+//! The variables and the blocks of a program.
+
+use crate::blocks::{block_of, is_address, is_name, output_of};
+use crate::fault::{PlcFault, PlcReason};
+use crate::table::Table;
+use crate::xml::{child, first_in, is_named, is_on, is_word, name_of, parts_in, value_of};
+use diagram_declarations::{BlockKind, same_letters};
+use st_expression::Operand;
+use std::alloc::Global;
+use xml_document::{Document, Span};
+use xml_parts::{Part, attribute, bytes_at};
+
+/// A program has no more variables than this.
+const MOST_VARIABLES: usize = 4_000;
+
+/// A block, with its number among the blocks.
+#[derive(Clone, Copy)]
+pub(crate) struct Instance {
+    pub number: usize,
+    pub kind: BlockKind,
+}
+
+/// What a name is declared as.
+#[derive(Clone, Copy)]
+pub(crate) enum Sort {
+    /// A BOOL, by its number among them, and whether it begins as on.
+    Bool { number: usize, initial: bool },
+    Block(Instance),
+    /// Something that the text doesn't have.
+    Other,
+}
+
+/// What a variable or a block is declared as.
+#[derive(Clone, Copy)]
+pub(crate) struct Variable {
+    pub name: Span,
+    /// No bytes where there is none.
+    pub address: Span,
+    pub sort: Sort,
+}
+
+/// The variables of a list: from one number on, to before another one.
+#[derive(Clone, Copy)]
+pub(crate) struct List {
+    /// The word that a list begins with in the text.
+    pub word: &'static [u8],
+    pub from: usize,
+    pub to: usize,
+}
+
+/// A word with what is behind its point.
+#[derive(Clone, Copy)]
+struct Path<'a> {
+    name: &'a [u8],
+    member: Option<&'a [u8]>,
+}
+
+/// What a program declares, in the order of the document.
+#[derive(Drop)]
+pub(crate) struct Symbols<'d> {
+    document: &'d Document,
+    pub variables: Table<Variable>,
+    pub lists: Table<List>,
+    /// The variables that are BOOLs, and those that are blocks.
+    pub bools: Table<usize>,
+    pub blocks: Table<usize>,
+}
+
+/// The word that a list of variables begins with in the text, by its name in the document.
+fn word_of(name: &[u8]) -> Option<&'static [u8]> {
+    if is_word(name, b"inputVars") {
+        return Some(b"VAR_INPUT");
+    }
+    if is_word(name, b"outputVars") {
+        return Some(b"VAR_OUTPUT");
+    }
+    if is_word(name, b"localVars") || is_word(name, b"externalVars") || is_word(name, b"tempVars") {
+        Some(b"VAR")
+    } else {
+        None
+    }
+}
+
+/// Refuses a variable by its name.
+fn refused(name: Span, reason: PlcReason) -> PlcFault {
+    PlcFault::Variable { name, reason }
+}
+
+/// Parts a word at its first point.
+fn path_of(word: &[u8]) -> Path<'_> {
+    for at in 0..word.len() {
+        if word[at] == b'.' {
+            return Path {
+                name: &word[..at],
+                member: Some(&word[at + 1..]),
+            };
+        }
+    }
+    Path {
+        name: word,
+        member: None,
+    }
+}
+
+/// Whether the initial value inside an element is on; it is off where there is none.
+fn initial_of(document: &Document, place: usize) -> Result<bool, PlcReason> {
+    let Some(initial) = child(document, place, b"initialValue") else {
+        return Ok(false);
+    };
+    let Some(simple) = child(document, initial, b"simpleValue") else {
+        return Err(PlcReason::Initial);
+    };
+    let word = match attribute(document, simple, b"value") {
+        Some(word) => word,
+        None => b"",
+    };
+    if same_letters(word, b"TRUE") || is_word(word, b"1") {
+        return Ok(true);
+    }
+    if word.is_empty() || same_letters(word, b"FALSE") || is_word(word, b"0") {
+        Ok(false)
+    } else {
+        Err(PlcReason::Initial)
+    }
+}
+
+/// The block that an element is the type of.
+fn derived_of(document: &Document, part: Part) -> Option<BlockKind> {
+    if !is_named(document, part, b"derived") {
+        return None;
+    }
+    block_of(attribute(document, part.inside, b"name")?)
+}
+
+/// The first element in the type of a variable.
+fn type_of(document: &Document, place: usize) -> Option<Part> {
+    let place = child(document, place, b"type")?;
+    first_in(document, place)
+}
+
+/// Whether a list of variables has values that are kept, or that no one writes.
+fn is_kept(document: &Document, place: usize) -> Result<bool, PlcReason> {
+    Ok(
+        is_on(document, place, b"retain")?
+            || is_on(document, place, b"persistent")?
+            || is_on(document, place, b"constant")?,
+    )
+}
+
+impl<'d> Symbols<'d> {
+    /// Nothing declared.
+    pub(crate) fn new(alloc: Global, document: &'d Document) -> Symbols<'d> {
+        Symbols {
+            document,
+            variables: Table::new(alloc),
+            lists: Table::new(alloc),
+            bools: Table::new(alloc),
+            blocks: Table::new(alloc),
+        }
+    }
+
+    /// Whether memory never ran out.
+    pub(crate) fn is_whole(&self) -> bool {
+        self.variables.is_whole
+            && self.lists.is_whole
+            && self.bools.is_whole
+            && self.blocks.is_whole
+    }
+
+    /// What a name is declared as.
+    pub(crate) fn find(&self, name: &[u8]) -> Option<Sort> {
+        for variable in self.variables.items() {
+            if same_letters(bytes_at(&self.document.bytes, variable.name), name) {
+                return Some(variable.sort);
+            }
+        }
+        None
+    }
+
+    /// The name of one of some variables.
+    fn name(&self, among: &Table<usize>, number: usize) -> &'d [u8] {
+        let Some(place) = among.at(number) else {
+            return b"";
+        };
+        match self.variables.at(place) {
+            Some(variable) => bytes_at(&self.document.bytes, variable.name),
+            None => b"",
+        }
+    }
+
+    /// The name of the BOOL with a number.
+    pub(crate) fn bool_name(&self, number: usize) -> &'d [u8] {
+        self.name(&self.bools, number)
+    }
+
+    /// The name of the block with a number.
+    pub(crate) fn block_name(&self, number: usize) -> &'d [u8] {
+        self.name(&self.blocks, number)
+    }
+
+    /// The kind of the block with a number.
+    pub(crate) fn block(&self, number: usize) -> Option<BlockKind> {
+        match self.variables.at(self.blocks.at(number)?)?.sort {
+            Sort::Block(instance) => Some(instance.kind),
+            _ => None,
+        }
+    }
+
+    /// The BOOL, or the output of a block, that a word names.
+    pub(crate) fn operand_of(&self, word: &[u8]) -> Result<Operand, PlcReason> {
+        let path = path_of(word);
+        match (self.find(path.name), path.member) {
+            (Some(Sort::Bool { number, .. }), None) => Ok(Operand::Variable(number)),
+            (Some(Sort::Block(instance)), Some(member)) => {
+                if same_letters(member, output_of(instance.kind)) {
+                    Ok(Operand::Output(instance.number))
+                } else {
+                    Err(PlcReason::Formal)
+                }
+            }
+            (Some(_), _) => Err(PlcReason::Type),
+            (None, _) => Err(PlcReason::Undeclared),
+        }
+    }
+
+    /// What the variable inside an element is declared as.
+    fn sort_of(&self, place: usize) -> Result<Sort, PlcReason> {
+        let Some(part) = type_of(self.document, place) else {
+            return Ok(Sort::Other);
+        };
+        if is_named(self.document, part, b"BOOL") {
+            return Ok(Sort::Bool {
+                number: self.bools.len(),
+                initial: initial_of(self.document, place)?,
+            });
+        }
+        let Some(kind) = derived_of(self.document, part) else {
+            return Ok(Sort::Other);
+        };
+        if child(self.document, place, b"initialValue").is_some() {
+            return Err(PlcReason::Initial);
+        }
+        Ok(Sort::Block(Instance {
+            number: self.blocks.len(),
+            kind,
+        }))
+    }
+
+    /// Adds a variable.
+    fn add(&mut self, variable: Variable) {
+        let number = self.variables.len();
+        match variable.sort {
+            Sort::Bool { .. } => self.bools.push(number),
+            Sort::Block(_) => self.blocks.push(number),
+            Sort::Other => {}
+        }
+        self.variables.push(variable);
+    }
+
+    /// Why the text can't have a variable, if it can't.
+    fn fault_of(&self, variable: Variable) -> Result<(), PlcReason> {
+        let name = bytes_at(&self.document.bytes, variable.name);
+        if self.find(name).is_some() {
+            return Err(PlcReason::Twice);
+        }
+        if matches!(variable.sort, Sort::Other) {
+            return Ok(());
+        }
+        let address = bytes_at(&self.document.bytes, variable.address);
+        if !is_name(name) {
+            return Err(PlcReason::Name);
+        }
+        if !address.is_empty() && !is_address(address) {
+            return Err(PlcReason::Address);
+        }
+        Ok(())
+    }
+
+    /// Reads the variable inside an element.
+    fn read_variable(&mut self, place: usize) -> Result<(), PlcFault> {
+        if self.variables.len() >= MOST_VARIABLES {
+            return Err(PlcFault::TooLarge);
+        }
+        let name = value_of(self.document, place, b"name");
+        let sort = match self.sort_of(place) {
+            Ok(sort) => sort,
+            Err(reason) => return Err(refused(name, reason)),
+        };
+        let variable = Variable {
+            name,
+            address: value_of(self.document, place, b"address"),
+            sort,
+        };
+        if let Err(reason) = self.fault_of(variable) {
+            return Err(refused(name, reason));
+        }
+        self.add(variable);
+        Ok(())
+    }
+
+    /// Reads the variables of a list.
+    fn read_variables(&mut self, parts: &[Part]) -> Result<(), PlcFault> {
+        for part in parts {
+            if is_named(self.document, *part, b"variable") {
+                self.read_variable(part.inside)?;
+            }
+        }
+        Ok(())
+    }
+
+    /// Reads a list of variables. Other elements are passed over.
+    fn read_list(&mut self, alloc: Global, part: Part) -> Result<(), PlcFault> {
+        let Some(word) = word_of(name_of(self.document, part)) else {
+            return Ok(());
+        };
+        match is_kept(self.document, part.inside) {
+            Ok(false) => {}
+            Ok(true) => return Err(refused(part.name, PlcReason::Retain)),
+            Err(reason) => return Err(refused(part.name, reason)),
+        }
+        let from = self.variables.len();
+        let parts = parts_in(alloc, self.document, part.inside)?;
+        let told = self.read_variables(&parts);
+        let to = self.variables.len();
+        self.lists.push(List { word, from, to });
+        told
+    }
+
+    /// Reads lists of variables.
+    fn read_lists(&mut self, alloc: Global, parts: &[Part]) -> Result<(), PlcFault> {
+        for part in parts {
+            self.read_list(alloc, *part)?;
+        }
+        Ok(())
+    }
+
+    /// Reads the interface of a program.
+    pub(crate) fn read(&mut self, alloc: Global, place: usize) -> Result<(), PlcFault> {
+        let parts = parts_in(alloc, self.document, place)?;
+        self.read_lists(alloc, &parts)
+    }
+}

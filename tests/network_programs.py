@@ -1,0 +1,328 @@
+"""Programs made at random as a ladder diagram in PLCopen XML has them, what they do, and what of them is refused.
+
+The elements act one after the other, each by the power that has a way to it from the left, which is searched for from the right.
+"""
+from dataclasses import dataclass, field
+
+from statements import KINDS, Run
+
+ACTING = ("coil", "block", "outVariable", "return")
+NAMES = ("Start", "stop", "a", "b2", "_x", "Motor", "MotorContactor", "MotorContactor2", "LevelTooHighInTankNumber3", "Horn", "h1", "Q", "S", "r", "Lamp_9",
+         "DoorClosed", "x", "y", "CoolantPump", "CoolantPumpReady", "Tank", "Valve_A", "EmergencyStopOfTheConveyorBelt", "Auto", "Hand", "Reset", "z80", "i0")
+DURATIONS = {0: "T#0s", 1: "T#1ms", 5: "T#5ms", 700: "T#700ms", 1000: "T#1s", 2000: "t#2s", 5000: "T#5s", 60_000: "T#1m"}
+OTHERS = ("INT", "REAL", "TIME", "string", "derived")
+
+
+@dataclass
+class Variable:
+    """A variable or a block: its kind is BOOL, a block's or another one."""
+
+    name: str
+    kind: str
+    listed: str
+    address: str = ""
+    initial: bool = False
+
+
+@dataclass(eq=False)
+class Element:
+    """An element of a diagram, by the name that it has in XML; its word is a name, the output of a block or a literal."""
+
+    sort: str
+    word: str = ""
+    left: list = field(default_factory=list)
+    second: list = field(default_factory=list)
+    preset: "Element" = None
+    negated: bool = False
+    storage: str = "none"
+    number: int = 0
+    execution: int = 0
+    down: int = 0
+    across: int = 0
+
+
+class Program:
+    """A program made at random: what it declares, and its elements in the order in which they are to act."""
+
+    def __init__(self, chance, small):
+        self.random, self.small = chance, small
+        self.triggers, self.integers, self.elements, self.nodes = [], {}, [], []
+        self.name = chance.choice(["main", "PLC_PRG", "program0", "Motor"])
+        self.declare()
+        self.uncalled = chance.sample(sorted(self.blocks), len(self.blocks))
+        self.rails = [self.add("leftPowerRail")]
+        self.has_one_rail = chance.random() < 0.5
+        for number in range(chance.randint(1, 2 if small else chance.choice([4, 8, 8, 16]))):
+            if number and not self.has_one_rail:
+                self.rails.append(self.add("leftPowerRail"))
+            self.rung()
+        if self.is_so(0.02):
+            self.ring()
+
+    # what it declares
+
+    def declare(self):
+        """Declares variables and blocks, list by list."""
+        chance, names = self.random, self.random.sample(NAMES, 5 if self.small else 14)
+        lists = ["localVars"] + chance.sample(["inputVars", "outputVars", "localVars", "externalVars", "tempVars"], chance.choice([0, 1, 2, 3]))
+        kinds = ["BOOL"] * len(names) + chance.sample([*KINDS, *KINDS], 1 if self.small else chance.randint(1, 7))
+        kinds += chance.choices(OTHERS, k=chance.choice([0, 0, 1, 2]))
+        names += [f"{kind}{number}" if kind in KINDS else f"other{number}" for number, kind in enumerate(kinds[len(names):])]
+        made = [Variable(name, kind, chance.choice(lists)) for name, kind in zip(names, kinds)]
+        chance.shuffle(made)
+        self.lists = [(listed, [variable for variable in made if variable.listed == listed]) for listed in dict.fromkeys(lists)]
+        self.variables = [variable for _, some in self.lists for variable in some]
+        bools = [variable for variable in self.variables if variable.kind == "BOOL"]
+        for number, variable in enumerate(bools):
+            self.place(variable, number)
+        if not any(map(is_input, bools)):
+            bools[0].address, bools[0].listed = "%IX77.7", "localVars"
+            self.lists = [("localVars", self.variables)]
+        self.inputs = [variable.name for variable in bools if is_input(variable)]
+        self.outputs = [variable.name for variable in bools if not is_input(variable)] or self.spare()
+        self.initial = {variable.name: variable.initial for variable in self.variables if variable.kind == "BOOL"}
+        self.blocks = {variable.name: (variable.kind, self.preset(variable.kind)) for variable in self.variables if variable.kind in KINDS}
+
+    def spare(self):
+        """A variable that isn't an input, where all others are."""
+        self.lists.append(("outputVars", [Variable("spare", "BOOL", "outputVars")]))
+        self.variables += self.lists[-1][1]
+        return ["spare"]
+
+    def place(self, variable, number):
+        """Gives a variable an address and a value at the start, or leaves it without."""
+        letters = {"inputVars": "I", "outputVars": "Q"}.get(variable.listed, "IIQM")
+        if self.random.random() < 0.6:
+            variable.address = "%" + self.random.choice(letters) + self.random.choice([f"X{number // 8}.{number % 8}", f"X{number + 20}", f"{number + 50}"])
+        variable.initial = self.random.random() < 0.2
+
+    def preset(self, kind):
+        return {"PT": self.random.choice(list(DURATIONS)), "PV": self.random.choice([0, 1, 2, 3, 3, 5, 32767])}.get(KINDS[kind][2], 0)
+
+    def output(self, name):
+        return f"{name}.Q1" if self.blocks[name][0] in ("SR", "RS") else f"{name}.Q"
+
+    # its networks
+
+    def add(self, sort, word="", left=(), **more):
+        self.elements.append(Element(sort, word, list(left), **more))
+        return self.elements[-1]
+
+    def is_so(self, probability):
+        return self.random.random() < probability
+
+    def operand(self):
+        if self.blocks and self.is_so(0.2):
+            return self.output(self.random.choice(list(self.blocks)))
+        return self.random.choice(self.inputs + self.outputs)
+
+    def contact(self, left):
+        """A contact; now and then nothing leads to it."""
+        return self.add("contact", self.operand(), [] if self.is_so(0.001) else left, negated=self.is_so(0.4))
+
+    def series(self, left, depth):
+        """What the last parts of some in series give."""
+        for _ in range(self.random.choice([1, 1, 2, 2, 3])):
+            left = self.part(left, depth)
+            self.nodes.append(left)
+        return left
+
+    def part(self, left, depth):
+        """What a part gives, to which some elements lead."""
+        forms = {"contact": 6, "parallel": 4 if depth else 0, "shunt": 0.6 if depth else 0, "bridge": 0.5 if depth else 0}
+        forms |= {"block": 1.2 if self.uncalled else 0, "variable": 0.3, "coil": 0.5, "beside": 0.3, "alike": 0.6}
+        return getattr(self, self.random.choices(list(forms), list(forms.values()))[0] + "_part")(left, depth)
+
+    def contact_part(self, left, depth):
+        return [self.contact(left)]
+
+    def parallel_part(self, left, depth):
+        """Branches beside one another; now and then one of them begins elsewhere."""
+        made = []
+        for _ in range(self.random.choice([2, 2, 3])):
+            made += self.beside(self.series(self.random.choice(self.nodes) if self.nodes and self.is_so(0.1) else left, depth - 1))
+        return made
+
+    def beside(self, elements):
+        """What is to be beside other elements: now and then a coil is, and else what leads to it."""
+        return before_coils(elements) if self.is_so(0.97) else elements
+
+    def shunt_part(self, left, depth):
+        """A wire beside a part."""
+        wire, part = self.beside(left), self.beside(self.series(left, depth - 1))
+        return self.random.choice([[*wire, *part], [*part, *wire]])
+
+    def bridge_part(self, left, depth):
+        upper, lower = self.series(left, depth - 1), self.beside(self.series(left, depth - 1))
+        return [self.contact(upper), self.contact([*lower, self.contact(upper)])]
+
+    def alike_part(self, left, depth):
+        """Contacts beside one another, two nodes behind them."""
+        made = [self.contact(left), self.contact(left)]
+        return [self.contact(made), self.contact(made)]
+
+    def block_part(self, left, depth):
+        """A block, and what its output leads to; now and then it is used a second time."""
+        name = self.uncalled[-1] if self.is_so(0.005) else self.uncalled.pop()
+        kind, preset = self.blocks[name]
+        literal = self.add("inVariable", DURATIONS[preset] if KINDS[kind][2] == "PT" else str(preset)) if KINDS[kind][2] else None
+        second = self.random.choice([[], self.series(self.start(), 0), self.random.choice(self.nodes or [[]])]) if KINDS[kind][1] else []
+        return [self.add("block", name, [] if self.is_so(0.02) else left, second=second, preset=literal)]
+
+    def variable_part(self, left, depth):
+        """A variable that has power itself, beside what leads there."""
+        return [*self.beside(self.series(left, 0)), self.add("inVariable", self.operand())]
+
+    def coil_part(self, left, depth):
+        """A coil, and what is behind it."""
+        return [self.coil(left)]
+
+    def beside_part(self, left, depth):
+        """A coil beside a contact, which is refused where it has several connections or a rail on its left."""
+        return [self.coil([self.contact(left)] if self.is_so(0.99) else left), self.contact(left)]
+
+    def coil(self, left):
+        kind = self.random.choice(["plain", "plain", "plain", "negated", "set", "reset"])
+        return self.add("coil", self.random.choice(self.outputs), left, negated=kind == "negated", storage=kind if kind in ("set", "reset") else "none")
+
+    def start(self):
+        return [self.rails[0 if self.has_one_rail else -1]]
+
+    def rung(self):
+        """Parts from a rail to what they act on; more begin at nodes between."""
+        self.nodes = self.nodes[-1:] if self.is_so(0.1) else []
+        self.end(self.series(self.start(), 1 if self.small else self.random.choice([0, 1, 1, 2])))
+        for _ in range(self.random.choice([0, 0, 0, 1, 2])):
+            left = self.random.choice(self.nodes)
+            self.end(self.series(left, 0) if self.is_so(0.7) else left)
+
+    def ring(self):
+        """Has a contact lead to one before it."""
+        contacts = [element for element in self.elements if element.sort == "contact"]
+        first = self.random.randrange(len(contacts)) if contacts else 0
+        for contact in contacts[first:first + 1]:
+            contact.left.append(self.random.choice(contacts[first:first + 3]))
+
+    def end(self, left):
+        """What a node leads to."""
+        for _ in range(self.random.choice([1, 1, 1, 2, 3])):
+            if self.is_so(0.02):
+                left = self.random.choice([[], self.start(), self.rails])
+            sort = self.random.choices(["coil", "outVariable", "return"], [10, 2, 0.3])[0]
+            if sort == "coil":
+                left = [self.coil(left)] if self.is_so(0.3) and left else self.coil(left).left
+            else:
+                self.add(sort, self.random.choice(self.outputs) if sort == "outVariable" else "", left)
+
+
+def is_input(variable):
+    """Whether nothing in the program may write it."""
+    return variable.listed == "inputVars" or variable.address.startswith("%I")
+
+
+# ---- what the elements do
+
+
+def in_order(parts):
+    """Those that act, in the order in which they do: by execution numbers, if all have one, then from above, from the left, and as they are written."""
+    acting = [(place, part) for place, part in enumerate(parts) if part.sort in ACTING]
+    numbered = all(part.execution for _, part in acting)
+    return [part for _, part in sorted(acting, key=lambda one: (one[1].execution * numbered, one[1].down, one[1].across, one[0]))]
+
+
+class Networks(Run):
+    """A program in a state, at first the fresh one."""
+
+    def __init__(self, program):
+        super().__init__(program)
+        self.values.update(program.initial)
+
+    def lets_through(self, element):
+        return element.sort == "coil" or self.values[element.word] != element.negated
+
+    def is_on(self, element):
+        """Whether power begins at an element."""
+        if element.sort == "block":
+            return self.values[self.source.output(element.word)]
+        return element.sort == "leftPowerRail" or element.sort == "inVariable" and self.values[element.word]
+
+    def is_fed(self, elements):
+        """Whether there is a way to some elements, through what lets power through, from where power begins."""
+        near, seen = list(elements), set()
+        while near:
+            element = near.pop()
+            if element in seen:
+                continue
+            seen.add(element)
+            if self.is_on(element):
+                return True
+            if element.sort in ("contact", "coil") and self.lets_through(element):
+                near += element.left
+        return False
+
+    def done(self, element):
+        """What an element does, as statements."""
+        fed = self.is_fed(element.left)
+        if element.sort == "block":
+            return [("call", element.word, fed, self.is_fed(element.second))]
+        if element.sort == "return":
+            return [("return",)] * fed
+        if element.storage != "none":
+            return [("assign", element.word, element.storage == "set")] * fed
+        return [("assign", element.word, fed != element.negated)]
+
+    def run(self, elements, moment):
+        for element in elements:
+            super().run(self.done(element), moment)
+
+
+# ---- what is refused
+
+
+def before_coils(elements):
+    """The elements from which single coils lead to these."""
+    while len(elements) == 1 and elements[0].sort == "coil":
+        elements = elements[0].left
+    return elements
+
+
+def called_late(order):
+    """The blocks that lead to something that acts before they do, and those that are called twice."""
+    called = set()
+    for actor in order:
+        near, seen = [*actor.left, *actor.second], set()
+        while near:
+            element = near.pop()
+            if element.sort == "block" and element.word not in called:
+                yield element, "called_late"
+            if element.sort in ("contact", "coil") and element not in seen:
+                near += element.left
+            seen.add(element)
+        if actor.sort == "block":
+            if actor.word in called:
+                yield actor, "called_twice"
+            called.add(actor.word)
+
+
+def unwritable(order):
+    """What no expression can say: contacts to which nothing leads, and coils beside others that have several connections or a rail on their left."""
+    near, seen = [elements for actor in order for elements in (actor.left, actor.second)], set()
+    while near:
+        for first in before_coils(near.pop()):
+            element = (before_coils([first]) + [None])[0]
+            if first.sort == "coil" and (len(before_coils([first])) != 1 or element.sort == "leftPowerRail"):
+                yield first, "parallel_coil"
+            elif element.sort == "contact" and element not in seen:
+                seen.add(element)
+                left = before_coils(element.left)
+                if not left:
+                    yield element, "not_connected"
+                near += [] if any(other.sort == "leftPowerRail" for other in left) else [left]
+
+
+def refusals(parts):
+    """The fault lines that a diagram may have for its connections."""
+    order = in_order(parts)
+    connected = {other for part in parts if part.sort != "rightPowerRail" for other in (*part.left, *part.second)}
+    wrong = [*called_late(order), *unwritable(order), *((other, "no_power") for other in connected if other.sort == "coil" and not other.left)]
+    return {f"fault N5 element {element.number} {word}\n" for element, word in wrong}
