@@ -52,7 +52,8 @@ test:
 	  "python3 tests/importing.py $(PROGRAM) 200" \
 	  "python3 tests/networks.py $(PROGRAM) 200" \
 	  "python3 tests/statements.py $(PROGRAM) 200 200" \
-	  "python3 tests/exporting.py $(PROGRAM) 200"
+	  "python3 tests/exporting.py $(PROGRAM) 200" \
+	  "python3 tests/exporting.py $(PROGRAM) 200 1 --xml"
 	python3 tests/growth.py $(PROGRAM)
 	python3 tests/full.py $(PROGRAM)
 	python3 tests/saving.py $(PROGRAM)

@@ -41,8 +41,8 @@ _ladder() {
         check) options='--warn --aliases --why --help' ;;
         uses) options='--aliases --why --help' ;;
         draw) options='--why --help' ;;
-        export) options='--st --name --bits --codesys --aliases --why --help' ;;
-        import) options='--open --control --hal --why --help' ;;
+        export) options='--st --xml --name --bits --codesys --aliases --why --help' ;;
+        import) options='--open --control --hal --pou --why --help' ;;
         never) options='--state --off --pairs --quiet --aliases --why --help' ;;
         reach) options='--state --at --every --scans --states --both --gap --progress --why --help' ;;
         diff) options='--state --new-state --at --after --upto --limit --scans --for --every --grouped --terms --st --order --looks --reachable --runs --states --save --all-inputs --progress --quiet --aliases --why --help' ;;
@@ -59,7 +59,7 @@ _ladder() {
                 ((number++))
                 every=1
                 ;;
-            --state | --new-state | --at | --after | --upto | --limit | --scans | --for | --every | --looks | --order | --number | --stimulus | --coil | --save | --watch | --expect | --states | --both | --gap | --control | --hal | --name) ((number++)) ;;
+            --state | --new-state | --at | --after | --upto | --limit | --scans | --for | --every | --looks | --order | --number | --stimulus | --coil | --save | --watch | --expect | --states | --both | --gap | --control | --hal | --pou | --name) ((number++)) ;;
             -*) ;;
             *)
                 ((place++))
@@ -71,7 +71,7 @@ _ladder() {
     case $before in
         --save) if [[ $subcommand == diff ]]; then mapfile -t COMPREPLY < <(compgen -d -- "$word"); else mapfile -t COMPREPLY < <(compgen -f -- "$word"); fi ;;
         --state | --new-state | --stimulus | --expect | --hal) mapfile -t COMPREPLY < <(compgen -f -- "$word") ;;
-        --at | --after | --upto | --limit | --scans | --for | --every | --looks | --number | --states | --gap | --name) ;;
+        --at | --after | --upto | --limit | --scans | --for | --every | --looks | --number | --states | --gap | --pou | --name) ;;
         --all-coils) mapfile -t COMPREPLY < <(compgen -d -- "$word") ;;
         --order) mapfile -t COMPREPLY < <(compgen -W 'auto given' -- "$word") ;;
         --control) mapfile -t COMPREPLY < <(compgen -W 'on' -- "$word") ;;

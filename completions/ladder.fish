@@ -7,7 +7,7 @@ function __ladder_places
     for word in $words
         if test $due = 1
             set due 0
-        else if contains -- $word --state --new-state --at --after --upto --limit --scans --for --every --looks --order --number --stimulus --coil --all-coils --save --watch --expect --states --both --gap --control --hal --name
+        else if contains -- $word --state --new-state --at --after --upto --limit --scans --for --every --looks --order --number --stimulus --coil --all-coils --save --watch --expect --states --both --gap --control --hal --pou --name
             set due 1
         else if not string match -q -- '-*' $word
             echo $word
@@ -72,7 +72,7 @@ complete -c ladder -n 'test (count (__ladder_places)) = 0' -a uses -d 'Print whe
 complete -c ladder -n 'test (count (__ladder_places)) = 0' -a reach -d 'Write a run that switches a coil ON, or say that there is none'
 complete -c ladder -n 'test (count (__ladder_places)) = 0' -a diff -d 'Say what a change of a program changes'
 complete -c ladder -n 'test (count (__ladder_places)) = 0' -a draw -d 'Draw a program in Structured Text'
-complete -c ladder -n 'test (count (__ladder_places)) = 0' -a export -d 'Write a program in Structured Text'
+complete -c ladder -n 'test (count (__ladder_places)) = 0' -a export -d 'Write a program in Structured Text or PLCopen XML'
 complete -c ladder -n 'test (count (__ladder_places)) = 0' -a import -d 'Write the program text of a project of ClassicLadder or PLCopen XML'
 complete -c ladder -n 'test (count (__ladder_places)) = 0' -a never -d 'Print what can never come ON'
 complete -c ladder -n 'test (count (__ladder_places)) = 0' -a explain -d 'Say what a fault means'
@@ -82,6 +82,7 @@ complete -c ladder -n '__ladder_at help 1' -a 'check causes show sim uses never 
 complete -c ladder -n '__ladder_at check,causes,show,sim,uses,never,reach,diff,draw,export,import more 0' -l why -d 'Faults are explained'
 complete -c ladder -n '__ladder_at check,causes,show,sim,uses,never,diff,export more 0' -l aliases -d 'Aliases in place of names'
 complete -c ladder -n '__ladder_at export more 0' -l st -d 'Structured Text'
+complete -c ladder -n '__ladder_at export more 0' -l xml -d 'A ladder diagram in PLCopen XML'
 complete -c ladder -n '__ladder_at export more 0' -l name -x -d 'The name of the program'
 complete -c ladder -n '__ladder_at export more 0' -l bits -d 'Addresses by byte and bit'
 complete -c ladder -n '__ladder_at export more 0' -l codesys -d 'Inputs of bistables as CODESYS calls them'
@@ -121,6 +122,7 @@ complete -c ladder -n '__ladder_at diff more 0' -l all-inputs -d 'All inputs tha
 complete -c ladder -n '__ladder_at import more 0' -l open -d 'Compares and steps have any value'
 complete -c ladder -n '__ladder_at import more 0' -l control -x -a on -d 'The control input of timers that have none'
 complete -c ladder -n '__ladder_at import more 0' -l hal -r -F -d 'A HAL file with names'
+complete -c ladder -n '__ladder_at import more 0' -l pou -x -d 'The program with this name in PLCopen XML'
 complete -c ladder -n '__ladder_at causes,show more 0' -l at -x -d 'The moment of the scan in ms'
 complete -c ladder -n '__ladder_at causes more 0' -l after -x -d 'Causes with a greater number only'
 complete -c ladder -n '__ladder_at causes more 0' -l upto -x -d 'Causes up to this number only'

@@ -1,12 +1,17 @@
 #!/usr/bin/env python3
-"""Compares `ladder export --st` with the drawing: exporting.py PROGRAM [NUMBER [SEED]].
+"""Compares `ladder export` with the drawing: exporting.py PROGRAM [NUMBER [SEED]] [--xml].
 
 Each example (`examples/*/*.ld`) and each of so many random drawings (200) is exported, in a form that is chosen at random. The text is read here,
 and its statements are run one after the other (`statements.py`): in 40 scans of a random stimulus each variable and each output of a block must
 have the value that `ladder sim` gives it by the drawing. The text is drawn again too (`ladder draw`): that must be a program (`ladder check`)
 and have the same scans, unless it would have too many rungs (T9). A text that would be too large (E3) is passed over.
 
-Where the environment has EXPORT, these words are the command for `PROGRAM export --st`.
+With --xml each is exported as a project in PLCopen XML, which is read here too (`exported_projects.py`). Its elements act one after the other, each by
+the power that has a way to it: in the 40 scans each variable and each output of a block must have the value that it has by the drawing. What
+`ladder import` makes of the project must have the same scans, in all that `ladder sim --watch-all` shows, and leave the same in the blocks. A project
+that would have too many rungs or variables is counted apart.
+
+Where the environment has EXPORT, these words are the command for `PROGRAM export --st`, or for `PROGRAM export --xml`.
 """
 import csv
 import io
@@ -22,6 +27,7 @@ from collections import Counter
 from concurrent.futures import ProcessPoolExecutor
 
 from differential import LARGE, SMALL, drawing
+from exported_projects import Project
 from statements import KINDS, Run
 
 ROOT = pathlib.Path(__file__).resolve().parent.parent
@@ -31,6 +37,7 @@ TOKEN = re.compile(r"\s*(?:\(\*.*?\*\)\s*)*(:=|[A-Za-z_]\w*\.Q1?|T#\d+(?:ms|[dhm
 UNITS = {"ms": 1, "s": 1000, "m": 60_000, "h": 3_600_000, "d": 86_400_000}
 SPELLED = {"SR": ("SET1", "RESET"), "RS": ("SET", "RESET1")}
 ALIAS = re.compile(r"^ *(\w+) \(\* (\S+) \*\)", re.M)
+DECLARED = re.compile(r"^ *(\w+)(?: \(\* (\S+) \*\))?[^:\n]*: *\w+", re.M)
 FORMS = [[], [], [], ["--bits"], ["--codesys"], ["--aliases"]]
 
 
@@ -164,8 +171,8 @@ def asked(program, folder, *words):
     return done.returncode, done.stdout, done.stderr
 
 
-def exported(program, folder, form):
-    command = shlex.split(os.environ["EXPORT"]) if "EXPORT" in os.environ else [program, "export", "--st"]
+def exported(program, folder, form, language="--st"):
+    command = shlex.split(os.environ["EXPORT"]) if "EXPORT" in os.environ else [program, "export", language]
     status, text, fault = asked(command, folder, *form, "program.ld")
     if fault == "fault E3\n":
         return None
@@ -255,21 +262,93 @@ def tried(program, source, seed):
             return f"{source}\n{text}\n{error}"
 
 
-def trial(program, seed):
+# ---- projects in PLCopen XML
+
+
+def words_of(drawing):
+    """The name in a drawing for each alias, and for each name without one."""
+    found = DECLARED.findall(drawing.split("END_VAR")[0])
+    return {(alias or name).upper(): name.upper() for name, alias in found}
+
+
+def stored(program, folder, name):
+    """What blocks store at the end of a stimulus, by their names."""
+    status, _, fault = asked([program], folder, "sim", "--save", "made.state", name, "made.csv")
+    assert status == 0, fault
+    rows = [line.upper().split(",") for line in (folder / "made.state").read_text().splitlines()]
+    return {name: found for kind, name, *found in rows if kind in ("TIMER", "COUNTER", "BISTABLE")}
+
+
+def compare_again(program, folder, again, names, declared, records):
+    """Compares the drawing of a project with the first one, by the name there for each name here."""
+    rows = scanned(program, folder, "program.ld", declared, records)
+    before = stored(program, folder, "program.ld")
+    (folder / "again.ld").write_text(again)
+    others = scanned(program, folder, "again.ld", [names[name] for name in declared], records)
+    after = stored(program, folder, "again.ld")
+    for row, other in zip(rows, others, strict=True):
+        for key, found in row.items():
+            name, point, member = key.partition(".")
+            assert key == "MOMENT" or other[names[name] + point + member] == found, f"{again}{key} is {found} by the drawing at {row['MOMENT']}"
+    for name, found in before.items():
+        assert after[names[name]] == found, f"{again}{name} stores {found} by the drawing, not {after[names[name]]}"
+
+
+def imported_again(program, folder, names, declared, records):
+    """What is found of the drawing of a project."""
+    status, again, fault = asked([program], folder, "import", "made.xml")
+    if status and re.fullmatch("fault N6 (rungs|variables)\n", fault):
+        return f"too many {fault.split()[-1]} to be imported"
+    assert status == 0, fault
+    words = words_of(again)
+    compare_again(program, folder, again, {key.split(".")[0]: words[name.split(".")[0].upper()] for key, name in names.items()}, declared, records)
+    return "imported again"
+
+
+def projected(program, source, seed):
+    """What was compared of a drawing and its project."""
     chance = random.Random(seed)
-    return tried(program, drawing(chance, chance.choice([LARGE, SMALL])), seed)
+    form = chance.choice(FORMS)
+    with tempfile.TemporaryDirectory() as name:
+        folder = pathlib.Path(name)
+        (folder / "program.ld").write_text(source)
+        text = exported(program, folder, form, "--xml")
+        if text is None:
+            return "too large"
+        (folder / "made.xml").write_text(text)
+        try:
+            project = Project(text)
+            names = names_of(project, source)
+            declared = [key for key, value in names.items() if value in project.inputs]
+            records = stimulus_of(chance, declared)
+            rows = scanned(program, folder, "program.ld", declared, records)
+            wrong = difference(rows, names, project.fresh(), project.elements, records)
+            assert wrong is None, wrong
+            return imported_again(program, folder, names, declared, records)
+        except AssertionError as error:
+            return f"{source}\n{text}\n{error}"
+
+
+# ---- the whole
+
+
+def trial(program, seed, kind):
+    chance = random.Random(seed)
+    return kind(program, drawing(chance, chance.choice([LARGE, SMALL])), seed)
 
 
 def main():
-    words = sys.argv[1:] + ["200", "1"][max(0, len(sys.argv) - 2):]
+    words = [word for word in sys.argv[1:] if word != "--xml"]
+    kind = projected if "--xml" in sys.argv else tried
+    words += ["200", "1"][max(0, len(words) - 1):]
     if len(words) != 3:
         sys.exit(__doc__)
     program, number, seed = os.path.abspath(words[0]), *map(int, words[1:])
     examples = sorted(path.read_text() for path in ROOT.glob("examples/*/*.ld"))
     seeds = range(seed * 1_000_003, seed * 1_000_003 + number)
     with ProcessPoolExecutor(os.cpu_count()) as pool:
-        found = Counter(pool.map(tried, [program] * len(examples), examples, range(len(examples))))
-        found.update(pool.map(trial, [program] * number, seeds))
+        found = Counter(pool.map(kind, [program] * len(examples), examples, range(len(examples))))
+        found.update(pool.map(trial, [program] * number, seeds, [kind] * number))
     wrong = [what for what in found if "\n" in what]
     print(*wrong[:3], sep="\n")
     print(f"{sum(found.values()) - len(wrong)} of {sum(found.values())} alike:", *(f"{what} {found[what]}," for what in sorted(found) if what not in wrong))

@@ -76,9 +76,10 @@ REQUESTS = (
     (("reach", "rhythm.ld", "Y"), ("fault V9\n", "fault X7\n")),
     (("reach", "--every", "100", "rhythm.ld", "Y"), ("fault V9\n", "fault X7\n")),
     (("import", "lamp.clp"), ("fault X7\n",)),
-    (("import", "lamp.xml"), ("fault X7\n",)),
+    (("import", "--pou", "lamp", "lamp.xml"), ("fault X7\n",)),
     (("draw", "motor.st"), ("fault X7\n",)),
     (("export", "--st", "motor.ld"), ("fault V9\n", "fault X7\n")),
+    (("export", "--xml", "motor.ld"), ("fault V9\n", "fault X7\n")),
     (("--help",), ("fault X7\n",)),
 )
 Ending = collections.namedtuple("Ending", "out err status saved")

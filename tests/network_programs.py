@@ -1,12 +1,13 @@
 """Programs made at random as a ladder diagram in PLCopen XML has them, what they do, and what of them is refused.
 
-The elements act one after the other, each by the power that has a way to it from the left, which is searched for from the right.
+The elements act one after the other, each by the power that has a way to it from the left, which is searched for from the right. A jump that has
+power is followed to its label.
 """
 from dataclasses import dataclass, field
 
 from statements import KINDS, Run
 
-ACTING = ("coil", "block", "outVariable", "return")
+ACTING = ("coil", "block", "outVariable", "return", "jump")
 NAMES = ("Start", "stop", "a", "b2", "_x", "Motor", "MotorContactor", "MotorContactor2", "LevelTooHighInTankNumber3", "Horn", "h1", "Q", "S", "r", "Lamp_9",
          "DoorClosed", "x", "y", "CoolantPump", "CoolantPumpReady", "Tank", "Valve_A", "EmergencyStopOfTheConveyorBelt", "Auto", "Hand", "Reset", "z80", "i0")
 DURATIONS = {0: "T#0s", 1: "T#1ms", 5: "T#5ms", 700: "T#700ms", 1000: "T#1s", 2000: "t#2s", 5000: "T#5s", 60_000: "T#1m"}
@@ -51,11 +52,15 @@ class Program:
         self.declare()
         self.uncalled = chance.sample(sorted(self.blocks), len(self.blocks))
         self.rails = [self.add("leftPowerRail")]
+        self.open, self.jumps = [], 0
         self.has_one_rail = chance.random() < 0.5
         for number in range(chance.randint(1, 2 if small else chance.choice([4, 8, 8, 16]))):
             if number and not self.has_one_rail:
                 self.rails.append(self.add("leftPowerRail"))
             self.rung()
+            self.jump()
+        while self.open:
+            self.label(self.open.pop())
         if self.is_so(0.02):
             self.ring()
 
@@ -196,6 +201,27 @@ class Program:
             left = self.random.choice(self.nodes)
             self.end(self.series(left, 0) if self.is_so(0.7) else left)
 
+    def jump(self):
+        """Ends what is jumped over, or begins more; now and then it ends in a jump over what is done where it isn't done."""
+        if self.open and self.is_so(0.5):
+            label = self.open.pop(self.random.randrange(len(self.open)) if self.is_so(0.02) else -1)
+            if self.is_so(0.4):
+                self.add("jump", self.begun(), self.start())
+            self.label(label)
+        if self.is_so(0.12):
+            left = [self.contact(self.start())] if self.is_so(0.9) else self.start()
+            self.add("jump", self.begun(), left)
+
+    def begun(self):
+        """The name of a label to which a jump leads; now and then there is no such label, or there are two."""
+        self.jumps += self.is_so(0.98)
+        if self.is_so(0.99):
+            self.open.append(f"L{self.jumps}")
+        return f"L{self.jumps}"
+
+    def label(self, name):
+        self.add("label", name)
+
     def ring(self):
         """Has a contact lead to one before it."""
         contacts = [element for element in self.elements if element.sort == "contact"]
@@ -224,10 +250,17 @@ def is_input(variable):
 
 
 def in_order(parts):
-    """Those that act, in the order in which they do: by execution numbers, if all have one, then from above, from the left, and as they are written."""
-    acting = [(place, part) for place, part in enumerate(parts) if part.sort in ACTING]
-    numbered = all(part.execution for _, part in acting)
-    return [part for _, part in sorted(acting, key=lambda one: (one[1].execution * numbered, one[1].down, one[1].across, one[0]))]
+    """Those that act, and the labels, in the order in which they do: by execution numbers, if all that act have one, then from above, from the left, and
+    as they are written."""
+    ordered = [(place, part) for place, part in enumerate(parts) if part.sort in (*ACTING, "label")]
+    numbered = all(part.execution for _, part in ordered if part.sort != "label")
+    return [part for _, part in sorted(ordered, key=lambda one: (one[1].execution * numbered, one[1].down, one[1].across, one[0]))]
+
+
+def target_of(order, jump):
+    """Where the label is that a jump leads to, None where there isn't just one."""
+    found = [place for place, part in enumerate(order) if part.sort == "label" and part.word == jump.word]
+    return found[0] if len(found) == 1 else None
 
 
 class Networks(Run):
@@ -272,8 +305,14 @@ class Networks(Run):
         return [("assign", element.word, fed != element.negated)]
 
     def run(self, elements, moment):
-        for element in elements:
-            super().run(self.done(element), moment)
+        place = 0
+        while place < len(elements):
+            element = elements[place]
+            if element.sort == "jump":
+                place = target_of(elements, element) if self.is_fed(element.left) else place
+            elif element.sort != "label":
+                super().run(self.done(element), moment)
+            place += 1
 
 
 # ---- what is refused
@@ -320,9 +359,28 @@ def unwritable(order):
                 near += [] if any(other.sort == "leftPowerRail" for other in left) else [left]
 
 
+def crossing(order, place, end):
+    """The jumps from one place to another that lead elsewhere than over what is whole; the last of those over which one leads may lead over others."""
+    while place < end:
+        jump, place = order[place], place + 1
+        if jump.sort != "jump":
+            continue
+        target = target_of(order, jump)
+        if target is None or not place <= target <= end:
+            yield jump
+            continue
+        last, within = order[target - 1], target
+        further = target_of(order, last) if last.sort == "jump" and place < target else None
+        if further is not None and target < further <= end and last.left and all(other.sort == "leftPowerRail" for other in last.left):
+            within -= 1
+            yield from crossing(order, target, further)
+        yield from crossing(order, place, within)
+        place = further if within < target else target
+
+
 def refusals(parts):
     """The fault lines that a diagram may have for its connections."""
     order = in_order(parts)
     connected = {other for part in parts if part.sort != "rightPowerRail" for other in (*part.left, *part.second)}
-    wrong = [*called_late(order), *unwritable(order), *((other, "no_power") for other in connected if other.sort == "coil" and not other.left)]
+    wrong = [*called_late(order), *unwritable(order), *((jump, "jump") for jump in crossing(order, 0, len(order))), *((other, "no_power") for other in connected if other.sort == "coil" and not other.left)]
     return {f"fault N5 element {element.number} {word}\n" for element, word in wrong}

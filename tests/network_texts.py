@@ -15,7 +15,7 @@ class Writer:
         self.loose = chance.choice([0, 0, 0.02] if program.small else [0, 0.05, 0.3])
         self.parts = list(program.elements)
         {"positions": self.positioned, "document": self.listed, "numbers": self.numbered}[self.manner]()
-        self.spoiled, self.fault = None, ""
+        self.spoiled, self.fault, self.is_named = None, "", False
         if self.is_so(0.04):
             self.spoil()
 
@@ -69,7 +69,7 @@ class Writer:
         """Execution numbers of all that act; positions and the order of the document say nothing."""
         number = 0
         for part in self.parts:
-            if part.sort in ACTING:
+            if part.sort in (*ACTING, "label"):
                 number += self.random.choice([1, 1, 1, 2, 10])
                 part.execution = number
         if self.is_so(0.5):
@@ -259,7 +259,7 @@ class Writer:
         pairs = {"localId": element.number}
         if element.execution or element.sort in ACTING and self.is_so(0.1 if self.manner == "positions" else 0):
             pairs["executionOrderId"] = element.execution
-        if element.sort == "label":
+        if element.sort in ("label", "jump"):
             pairs["label"] = element.word
         if element.sort == "block":
             pairs |= {"typeName": self.spelled(self.program.blocks[element.word][0]), "instanceName": self.spelled(element.word)}
@@ -277,7 +277,7 @@ class Writer:
         made = [self.tag("pou", {"name": self.program.name, "pouType": "program"}, self.interface(), body)]
         if not self.program.small and self.is_so(0.3):
             statements = self.tag("body", None, self.tag("ST", None, self.words("xhtml:p", "x := a & b;")))
-            made.insert(self.random.choice([0, 1]), self.tag("pou", {"name": "other", "pouType": "functionBlock"}, self.tag("interface"), statements))
+            made.insert(self.random.choice([0, 1]), self.tag("pou", {"name": "other", "pouType": "program" if self.is_named else "functionBlock"}, self.tag("interface"), statements))
         return self.tag("pous", None, *made)
 
     def text(self):

@@ -3,7 +3,7 @@
 
 Each of so many programs (200) is made at random: contacts, coils, blocks, returns and variables in networks that needn't be in series and parallel
 (network_programs.py). It is written as a project in PLCopen XML as one of three tools does: with positions, in the order of the document, or with
-execution numbers (network_texts.py). What is imported must be a program (`ladder check`), and in 40 scans of a random stimulus each variable and each
+execution numbers (network_texts.py); a fourth of them is imported by its name, beside another program or alone. What is imported must be a program (`ladder check`), and in 40 scans of a random stimulus each variable and each
 output of a block must have the value that it has here: the elements act one after the other, each by the power that has a way to it from the left. A
 program that is refused must have what the fault line says, and one that has such a thing must be refused; at least 85 of 100 are accepted.
 
@@ -34,16 +34,17 @@ def project(seed, small):
     chance = random.Random(seed)
     program = Program(chance, small)
     writer = Writer(program, chance)
+    writer.is_named = seed % 4 == 1
     return program, writer, writer.text()
 
 
 # ---- the comparison
 
 
-def imported(program, folder, text):
+def imported(program, folder, text, name):
     """The drawing, or what is said of why there is none."""
     (folder / "project.xml").write_text(text, "utf-8", newline="")
-    status, drawing, fault = asked([program], folder, "import", "project.xml")
+    status, drawing, fault = asked([program], folder, "import", "project.xml", *(["--pou", name] if name else []))
     assert (status, bool(drawing), bool(fault)) in ((0, True, False), (1, False, True)), f"status {status}\n{drawing}{fault}"
     return drawing, fault
 
@@ -51,7 +52,7 @@ def imported(program, folder, text):
 def compared(program, folder, seed, made):
     """What is found of a program."""
     source, writer, text = made
-    drawing, fault = imported(program, folder, text)
+    drawing, fault = imported(program, folder, text, source.name if writer.is_named else None)
     due = writer.refusals()
     if fault:
         assert fault in due or re.fullmatch("fault N6 .*\n", fault), f"{fault}refused, not one of {sorted(due)}"

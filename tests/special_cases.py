@@ -45,7 +45,7 @@ def help_is_printed(*words):
 
 
 def help_fits(program, folder):
-    """Each line of help has at most 80 characters, and each subcommand two examples, that of projects three, whose words are those of a request."""
+    """Each line of help has at most 80 characters, and each subcommand two examples, that of projects four and that of exports three, whose words are those of a request."""
     for name, text in EXAMPLE_FILES.items():
         (folder / name).write_bytes(text if isinstance(text, bytes) else text.read_bytes())
     wide, counts, statuses = [], [], []
@@ -56,7 +56,7 @@ def help_fits(program, folder):
             shown = [re.split(r"  +| > ", line.strip())[0] for line in lines if line.startswith("  ladder ")]
             counts.append(len(shown) if "Examples:" in lines else None)
             statuses += [(line, status) for line in shown for status in [run(program, line.split()[1:], folder)[2]] if status != 0]
-    due = [3 if name == "import" else 2 for name in (*OF_PROGRAMS, *WITHOUT_ALIASES)]
+    due = [{"import": 4, "export": 3}.get(name, 2) for name in (*OF_PROGRAMS, *WITHOUT_ALIASES)]
     return differences((wide, counts, statuses), ([], due, []))
 
 
@@ -182,7 +182,7 @@ END_VAR
 |----| |---------( )----
 """
 EXAMPLE_FILES = {"plant.ld": PLANT, "old.ld": PLANT, "new.ld": PLANT.replace(b"|/|", b"| |"), "day.csv": b"moment,Start,Stop\n0,1,0\n500,0,0\n",
-                 "plant.clp": ROOT / "examples/classicladder/coolant.clp", "plant.xml": HERE / "projects/lamp.xml", "plant.hal": b"net start-button => classicladder.0.in-00\n"}
+                 "plant.clp": ROOT / "examples/classicladder/coolant.clp", "plant.xml": (HERE / "projects/lamp.xml").read_bytes().replace(b'"lamp"', b'"Plant"'), "plant.hal": b"net start-button => classicladder.0.in-00\n"}
 CAUSES = ["causes", "motor.ld", "Motor", "Start", "Stop"]
 SIM = ["sim", "motor.ld", "stimulus.csv"]
 STATE = ["causes", "--state", "state.csv", "motor.ld", "Motor"]

@@ -5,7 +5,7 @@ use Rattle.std.proofs.lemmas.Bool.{both_ways}
 use Rattle.std.proofs.lemmas.Slice.Eq.{bytes_eq-Decides}
 use Rattle.clap.specs.Words.{Row, Text, all_of, first_of}
 use Rattle.cli_options.specs.Pages.{is_fault_code}
-use Rattle.cli_arguments.specs.Asking.{Asks, AsksNone, HasCoil, HasControl, HasEvery, HasExcluded, HasFlag, HasForm, HasGrouping, HasInputs, HasLasting, HasNoTask, HasNumber, HasOption, HasOrder, HasPace, HasRuns, HasScans, HasSwitch, HasWatched, IsNamed, IsOfOneState, IsPlain, IsPlainTrace, IsSingle, IsTable, IsWhole, MayGroup, MayHaveLimit, NamesCauses, NamesList, NamesTrace, NamesWatch, input_texts, inputs_for}
+use Rattle.cli_arguments.specs.Asking.{Asks, AsksNone, HasCoil, HasControl, HasEvery, HasExcluded, HasFlag, HasForm, HasGrouping, HasInputs, HasLanguage, HasLasting, HasNoTask, HasNumber, HasOption, HasOrder, HasPace, HasRuns, HasScans, HasSwitch, HasWatched, IsNamed, IsOfOneState, IsPlain, IsPlainTrace, IsSingle, IsTable, IsWhole, MayGroup, MayHaveLimit, NamesCauses, NamesList, NamesTrace, NamesWatch, input_texts, inputs_for}
 use Rattle.cli_arguments.specs.Parts.{IsOfAnyState, IsOfOneScan, IsOfRecords, IsUncut, MayLast, NamesNoDiff, NamesNoDiffRuns, NamesNoEnd, NamesNoRuns, NamesNoStates, NamesNoVerdicts, NamesScan, Plays}
 use Rattle.cli_arguments.specs.Faults.{UsageWhere}
 use Rattle.cli_arguments.specs.declared.request.GroupFormat.{GroupFormat}
@@ -21,6 +21,8 @@ use Rattle.cli_arguments.specs.declared.request.ShowRequest.{ShowRequest}
 use Rattle.cli_arguments.specs.declared.request.FilmRequest.{FilmRequest}
 use Rattle.cli_arguments.specs.declared.request.ExpectRequest.{ExpectRequest}
 use Rattle.cli_arguments.specs.declared.request.ExportRequest.{ExportRequest}
+use Rattle.cli_arguments.specs.declared.request.ImportRequest.{ImportRequest}
+use Rattle.cli_arguments.specs.declared.request.Language.{Language}
 use Rattle.cli_arguments.specs.declared.request.SimRequest.{SimRequest}
 use Rattle.cli_arguments.specs.declared.request.WatchRequest.{WatchRequest}
 use Rattle.cli_arguments.specs.declared.request.WavesRequest.{WavesRequest}
@@ -79,7 +81,7 @@ module _ (name : List ℕ) (rows : List Row)
     (uses : name ≡ codes "uses" → (file : String Global) → Asks name rows (Uses file) → ⊥)
     (never : name ≡ codes "never" → (r : NeverRequest) → Asks name rows (Never r) → ⊥)
     (reach : name ≡ codes "reach" → (r : ReachRequest) → Asks name rows (Reach r) → ⊥)
-    (import : name ≡ codes "import" → (opened control_on : Bool) (file : String Global) (hal : Option (String Global)) → Asks name rows (Import opened control_on file hal) → ⊥)
+    (import : name ≡ codes "import" → (r : ImportRequest) → Asks name rows (Import r) → ⊥)
     (draw : name ≡ codes "draw" → (file : String Global) → Asks name rows (Draw file) → ⊥)
     (export : name ≡ codes "export" → (r : ExportRequest) → Asks name rows (Export r) → ⊥) where
   by_subcommand : AsksNone name rows
@@ -99,7 +101,7 @@ module _ (name : List ℕ) (rows : List Row)
   by_subcommand (Uses file) h = uses h.0 file h
   by_subcommand (Never r) h = never h.0 r h
   by_subcommand (Reach r) h = reach h.0 r h
-  by_subcommand (Import opened control_on file hal) h = import h.0 opened control_on file hal h
+  by_subcommand (Import r) h = import h.0 r h
   by_subcommand (Draw file) h = draw h.0 file h
   by_subcommand (Export r) h = export h.0 r h
 
@@ -199,25 +201,25 @@ only_export rows export =
     by_subcommand (codes "export") rows (apart (codes "export") (codes "check") refl) (apart (codes "export") (codes "causes") refl) (apart (codes "export") (codes "show") refl) (apart (codes "export") (codes "sim") refl)
     (apart (codes "export") (codes "uses") refl) (apart (codes "export") (codes "never") refl) (apart (codes "export") (codes "reach") refl) (apart (codes "export") (codes "import") refl) (apart (codes "export") (codes "draw") refl) (λ _. export)
 
--- The language is named.
-pub no_language : (rows : List Row) → (HasFlag (codes "st") rows → ⊥) → AsksNone (codes "export") rows
-no_language rows none = only_export rows (λ r h. none h.1)
+-- One language is named.
+pub no_language : (rows : List Row) → ((l : Language) → HasLanguage l rows → ⊥) → AsksNone (codes "export") rows
+no_language rows none = only_export rows (λ r h. none r.language h.1)
 
 pub no_export : (rows : List Row) → first_of (codes "file") rows ≡ None → AsksNone (codes "export") rows
 no_export rows none = only_export rows (λ r h. let some = h.5 in cc)
 
 only_import : (rows : List Row)
-    → ((opened control_on : Bool) (file : String Global) (hal : Option (String Global)) → Asks (codes "import") rows (Import opened control_on file hal) → ⊥)
+    → ((r : ImportRequest) → Asks (codes "import") rows (Import r) → ⊥)
     → AsksNone (codes "import") rows
 only_import rows import =
     by_subcommand (codes "import") rows (apart (codes "import") (codes "check") refl) (apart (codes "import") (codes "causes") refl) (apart (codes "import") (codes "show") refl)
     (apart (codes "import") (codes "sim") refl) (apart (codes "import") (codes "uses") refl) (apart (codes "import") (codes "never") refl) (apart (codes "import") (codes "reach") refl) (λ _. import) (apart (codes "import") (codes "draw") refl) (apart (codes "import") (codes "export") refl)
 
 pub no_import : (rows : List Row) → first_of (codes "file") rows ≡ None → AsksNone (codes "import") rows
-no_import rows none = only_import rows (λ opened control_on file hal h. let some = h.3 in cc)
+no_import rows none = only_import rows (λ r h. let some = h.3 in cc)
 
 pub no_control : (rows : List Row) → ((on : Bool) → HasControl on rows → ⊥) → AsksNone (codes "import") rows
-no_control rows none = only_import rows (λ opened control_on file hal h. none control_on h.2)
+no_control rows none = only_import rows (λ r h. none r.control_on h.2)
 
 -- a word that isn't the one of the option
 pub no_control_of : (rows : List Row) (text : Text) → first_of (codes "control") rows ≡ Some text → (text ≡ codes "on" → ⊥) → (on : Bool) → HasControl on rows → ⊥

@@ -19,6 +19,8 @@ use Rattle.cli_arguments.specs.declared.request.GroupFormat.TheVariants.{Stateme
 use Rattle.cli_arguments.specs.declared.request.Grouping.{Grouping}
 use Rattle.cli_arguments.specs.declared.request.InputOrder.{InputOrder}
 use Rattle.cli_arguments.specs.declared.request.InputOrder.TheVariants.{Given, Sifted}
+use Rattle.cli_arguments.specs.declared.request.Language.{Language}
+use Rattle.cli_arguments.specs.declared.request.Language.TheVariants.{Diagram, Statements}
 use Rattle.cli_arguments.specs.declared.request.Medium.{Medium}
 use Rattle.cli_arguments.specs.declared.request.Medium.TheVariants as medium
 use Rattle.cli_arguments.specs.declared.request.Pace.{Pace}
@@ -72,6 +74,11 @@ HasExcluded excluded.BothOn rows = (HasFlag (codes "off") rows → ⊥) × HasFl
 abbrev pub HasControl : Bool → List Row → Type 0
 HasControl true rows = HasText (codes "control") rows (codes "on")
 HasControl false rows = HasOption (codes "control") rows None
+
+-- The language in which a program is to be written: one of them is named.
+abbrev pub HasLanguage : Language → List Row → Type 0
+HasLanguage Statements rows = HasFlag (codes "st") rows × (HasFlag (codes "xml") rows → ⊥)
+HasLanguage Diagram rows = (HasFlag (codes "st") rows → ⊥) × HasFlag (codes "xml") rows
 
 -- how a drawing is to be written
 abbrev pub HasMedium : Medium → List Row → Type 0
@@ -353,14 +360,15 @@ Asks name rows (Waves r) = (name ≡ codes "sim")
     × HasText (codes "stimulus") rows (string_bytes r.stimulus)
     × IsPlainTrace rows
 Asks name rows (Uses file) = (name ≡ codes "uses") × HasText (codes "file") rows (string_bytes file)
-Asks name rows (Import opened control_on file hal) = (name ≡ codes "import")
-    × HasSwitch (codes "open") rows opened
-    × HasControl control_on rows
-    × HasText (codes "file") rows (string_bytes file)
-    × HasOption (codes "hal") rows (option_map string_bytes hal)
+Asks name rows (Import r) = (name ≡ codes "import")
+    × HasSwitch (codes "open") rows r.opened
+    × HasControl r.control_on rows
+    × HasText (codes "file") rows (string_bytes r.file)
+    × HasOption (codes "hal") rows (option_map string_bytes r.hal)
+    × HasOption (codes "pou") rows (option_map string_bytes r.pou)
 Asks name rows (Draw file) = (name ≡ codes "draw") × HasText (codes "file") rows (string_bytes file)
 Asks name rows (Export r) = (name ≡ codes "export")
-    × HasFlag (codes "st") rows
+    × HasLanguage r.language rows
     × HasOption (codes "name") rows (option_map string_bytes r.name)
     × HasSwitch (codes "bits") rows r.bits
     × HasSwitch (codes "codesys") rows r.codesys

@@ -16,8 +16,8 @@ mod words;
 
 pub use request::{
     AllCoils, CommandLine, DiffForm, DiffRequest, DiffRunsRequest, Excluded, ExpectRequest,
-    ExportRequest, FilmRequest, GroupFormat, Grouping, InputOrder, ListRequest, Medium,
-    NeverRequest, Pace, PossibleRequest, ReachRequest, Request, RunsWanted, ShowRequest,
-    SimRequest, Task, VerdictRequest, WatchRequest, WavesRequest, WordFault,
+    ExportRequest, FilmRequest, GroupFormat, Grouping, ImportRequest, InputOrder, Language,
+    ListRequest, Medium, NeverRequest, Pace, PossibleRequest, ReachRequest, Request, RunsWanted,
+    ShowRequest, SimRequest, Task, VerdictRequest, WatchRequest, WavesRequest, WordFault,
 };
 pub use words::read_words;

@@ -352,9 +352,35 @@ pub struct DiffRunsRequest {
     pub why: bool,
 }
 
-/// What a request for a program in Structured Text names.
+/// What a request for the program text of a project names.
+#[derive(Drop)]
+pub struct ImportRequest {
+    /// Whether numbers and sequential charts are opened.
+    pub opened: bool,
+    /// Whether a timer without a control input has it ON.
+    pub control_on: bool,
+    /// The file of the project.
+    pub file: String,
+    /// The HAL file after whose signals inputs and outputs are named.
+    pub hal: Option<String>,
+    /// The name of the program that is meant, where the project is in PLCopen XML; its only one where there is none.
+    pub pou: Option<String>,
+}
+
+/// The language in which a program is written.
+#[derive(Clone, Copy, Debug, PartialEq, Eq)]
+pub enum Language {
+    /// Structured Text.
+    Statements,
+    /// A ladder diagram in PLCopen XML.
+    Diagram,
+}
+
+/// What a request for a program in a language of controllers names.
 #[derive(Drop)]
 pub struct ExportRequest {
+    /// The language in which it is written.
+    pub language: Language,
     /// The name of the program in the text, where it is given.
     pub name: Option<String>,
     /// Whether an address with one number is written by byte and bit.
@@ -438,23 +464,14 @@ pub enum Request {
     Never(NeverRequest),
     /// A run that switches something on, or that there is none.
     Reach(ReachRequest),
-    /// The program text of a ClassicLadder project.
-    Import {
-        /// Whether numbers and sequential charts are opened.
-        opened: bool,
-        /// Whether a timer without a control input has it ON.
-        control_on: bool,
-        /// The file of the project.
-        file: String,
-        /// The HAL file after whose signals inputs and outputs are named.
-        hal: Option<String>,
-    },
+    /// The program text of a project.
+    Import(ImportRequest),
     /// The drawing of a program in Structured Text.
     Draw {
         /// The file of the text.
         file: String,
     },
-    /// The program in Structured Text.
+    /// The program in a language of controllers.
     Export(ExportRequest),
 }
 

@@ -6,7 +6,7 @@ ghost use Rattle.clap.specs.Words.{Text, found_of, kind_of, rows_of, subcommand_
 ghost use Rattle.clap.specs.Words.{fault_of as clap_fault};
 ghost use Rattle.cli_options.specs.CommandLine.{ladder_app};
 ghost use Rattle.cli_options.specs.Pages.{is_fault_code};
-ghost use Rattle.cli_arguments.specs.Asking.{Asks, AsksBy, AsksNone, HasControl, HasExcluded, HasNoTask, HasTask, Says};
+ghost use Rattle.cli_arguments.specs.Asking.{Asks, AsksBy, AsksNone, HasControl, HasExcluded, HasLanguage, HasNoTask, HasTask, Says};
 ghost use Rattle.cli_arguments.specs.Faults.{IsFaultOf, IsTold, SaysOf, TellsUsage, UsageWhere};
 ghost use Rattle.cli_usage.specs.Rules.{Breaks};
 
@@ -16,7 +16,8 @@ use crate::found::{copied, is_set, optional, text, texts};
 use crate::parts::{Sources, sources_of};
 use crate::reaching::reach_request;
 use crate::request::{
-    AllCoils, CommandLine, Excluded, ExportRequest, NeverRequest, Request, Task, WordFault,
+    AllCoils, CommandLine, Excluded, ExportRequest, ImportRequest, Language, NeverRequest, Request,
+    Task, WordFault,
 };
 use crate::showing::show_request;
 use crate::simulating::sim_request;
@@ -32,7 +33,7 @@ use std::alloc::Global;
 ///
 /// `Mistake` where `clap` finds a fault other than that help is asked for, with what it says of it, or `Usage` when there is no memory for that; `Usage` where a fault has none of the named codes, where groups of one scan or a list over several scans are to begin after a
 /// number, to end at one or to tell how far they are, where a list over the inputs that matter is to end at a number or to tell how far it is, where a time between scans is asked for without several scans, several scans by their number and by a time, where a form or the order `auto` is asked for without groups of one scan in one state, or both forms, or a statement with a limit, or an order that has another name, where
-/// neither a coil is named nor each meant, where inputs are named beside all of them, where those that matter are asked for and others are listed, or several scans or any state are asked of, where any state is asked of and a moment, a number to begin after or to end at, lines of how far the list is, several scans, a time between scans, a form or the order `auto` is named as well, where it is said which states count, or how long a search is, or runs are asked for, and any state isn't asked of, where runs are asked for from states in which the coil is OFF, from every state or in groups, where any state is asked of without runs and a state or a number of states is named, where a stimulus is to be shown with a moment, a number or listed inputs, or a waveform to be written with a saved state or with what is watched, where names are watched beside all of them, where the scans of a run are limited in number without a time between them, or a gap is named beside that time, where the control input of timers is to be anything but `on`, and nowhere else; `Help` with its text where help is asked for; `Memory` when out of memory.
+/// neither a coil is named nor each meant, where inputs are named beside all of them, where those that matter are asked for and others are listed, or several scans or any state are asked of, where any state is asked of and a moment, a number to begin after or to end at, lines of how far the list is, several scans, a time between scans, a form or the order `auto` is named as well, where it is said which states count, or how long a search is, or runs are asked for, and any state isn't asked of, where runs are asked for from states in which the coil is OFF, from every state or in groups, where any state is asked of without runs and a state or a number of states is named, where a stimulus is to be shown with a moment, a number or listed inputs, or a waveform to be written with a saved state or with what is watched, where names are watched beside all of them, where the scans of a run are limited in number without a time between them, or a gap is named beside that time, where the control input of timers is to be anything but `on`, where the language of an export is not named or both are, and nowhere else; `Help` with its text where help is asked for; `Memory` when out of memory.
 pub fn read_words(alloc: Global, words: Vec<String>) -> Result<Task, WordFault>
     ensures asks { IfOk result (AsksBy ladder_app (map string_bytes words.items)) }
 
@@ -253,19 +254,31 @@ fn draw_request(alloc: Global, found: &ArgMatches<'_>) -> Result<Request, WordFa
     Ok(Request::Draw { file })
 }
 
-/// The request of `export`, which names the language.
+/// The language of an export, of which one has to be named.
+fn language_of(found: &ArgMatches<'_>) -> Result<Language, WordFault>
+    ensures ok { IfOk result (λ l. HasLanguage l (rows_of (found_of found.now))) }
+    ensures err { IfErr result (UsageWhere ((l : Language) → HasLanguage l (rows_of (found_of found.now)) → ⊥)) }
+{
+    match (is_set(found, "st"), is_set(found, "xml")) {
+        (true, false) => Ok(Language::Statements),
+        (false, true) => Ok(Language::Diagram),
+        (false, false) => Err(WordFault::Usage),
+        (true, true) => Err(WordFault::Usage),
+    }
+}
+
+/// The request of `export`.
 fn export_request(alloc: Global, found: &ArgMatches<'_>) -> Result<Request, WordFault>
     ensures ok { IfOk result (Asks (codes "export") (rows_of (found_of found.now))) }
     ensures err { IfErr result (UsageWhere (AsksNone (codes "export") (rows_of (found_of found.now)))) }
 {
-    if !is_set(found, "st") {
-        return Err(WordFault::Usage);
-    }
+    let language = language_of(found)?;
     let bits = is_set(found, "bits");
     let codesys = is_set(found, "codesys");
     let name = optional(alloc, found, "name")?;
     let file = text(alloc, found, "file")?;
     Ok(Request::Export(ExportRequest {
+        language,
         name,
         bits,
         codesys,
@@ -273,7 +286,7 @@ fn export_request(alloc: Global, found: &ArgMatches<'_>) -> Result<Request, Word
     }))
 }
 
-/// The request of `import`, with how elements without a counterpart are read.
+/// The request of `import`, with how elements without a counterpart are read, and which program is meant.
 fn import_request(alloc: Global, found: &ArgMatches<'_>) -> Result<Request, WordFault>
     ensures ok { IfOk result (Asks (codes "import") (rows_of (found_of found.now))) }
     ensures err { IfErr result (UsageWhere (AsksNone (codes "import") (rows_of (found_of found.now)))) }
@@ -281,13 +294,15 @@ fn import_request(alloc: Global, found: &ArgMatches<'_>) -> Result<Request, Word
     let opened = is_set(found, "open");
     let control_on = control_of(found)?;
     let hal = optional(alloc, found, "hal")?;
+    let pou = optional(alloc, found, "pou")?;
     let file = text(alloc, found, "file")?;
-    Ok(Request::Import {
+    Ok(Request::Import(ImportRequest {
         opened,
         control_on,
         file,
         hal,
-    })
+        pou,
+    }))
 }
 
 /// How the control of an old timer is read to which nothing is drawn: as ON, or as it is in ClassicLadder.

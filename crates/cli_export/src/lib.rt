@@ -1,4 +1,4 @@
-//! The request `export`: a ladder program as Structured Text, or the line that says why there is none.
+//! The request `export`: a ladder program in a language of controllers, or the line that says why there is none.
 #![tactic(auto)]
 
 mod exporting;

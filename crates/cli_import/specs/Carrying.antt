@@ -1,5 +1,5 @@
 -- How `ladder import` ends: the program text of the project is written, or what is said of why there is none.
-use Rattle.std.specs.Prelude.{◌≡◌, ◌⊎◌, ◌≤◌, All, ℕ, Bool, true, false, List, length}
+use Rattle.std.specs.Prelude.{◌≡◌, ◌⊎◌, ◌≤◌, All, ℕ, Bool, true, false, List, Option, length}
 use Rattle.clp_project.specs.Project.{IsProject, IsRight}
 use Rattle.clp_project.specs.declared.fault.ClpFault.{ClpFault}
 use Rattle.clp_project.specs.declared.project.Project.{Project}
@@ -50,11 +50,11 @@ BreaksProject reading why text out out' err err' =
 
 -- ---- both kinds of projects, which are told apart by their first bytes
 
--- A text that begins as XML does is one of PLCopen XML, and any other one of ClassicLadder.
-abbrev pub Carries : ReadingOptions → List ℕ → (List ℕ → Type 0) → Type 0
-Carries reading text Written =
-    ((is_xml text ≡ false) × CarriesProject reading text Written) ⊎ ((is_xml text ≡ true) × CarriesUnit text Written)
+-- A text that begins as XML does is one of PLCopen XML, of which a program may be named, and any other one of ClassicLadder.
+abbrev pub Carries : ReadingOptions → (name : Option (List ℕ)) → (text : List ℕ) → (List ℕ → Type 0) → Type 0
+Carries reading name text Written =
+    ((is_xml text ≡ false) × CarriesProject reading text Written) ⊎ ((is_xml text ≡ true) × CarriesUnit name text Written)
 
-abbrev pub BreaksCarrying : ReadingOptions → Bool → List ℕ → WriteLog → WriteLog → WriteLog → WriteLog → Type 0
-BreaksCarrying reading why text out out' err err' =
-    ((is_xml text ≡ false) × BreaksProject reading why text out out' err err') ⊎ ((is_xml text ≡ true) × BreaksUnit why text out out' err err')
+abbrev pub BreaksCarrying : ReadingOptions → Bool → (name : Option (List ℕ)) → (text : List ℕ) → WriteLog → WriteLog → WriteLog → WriteLog → Type 0
+BreaksCarrying reading why name text out out' err err' =
+    ((is_xml text ≡ false) × BreaksProject reading why text out out' err err') ⊎ ((is_xml text ≡ true) × BreaksUnit why name text out out' err err')

@@ -1,6 +1,6 @@
 //! The import of a project: its program text, or the report of why there is none.
 
-ghost use Rattle.std.specs.Prelude.{◌≡◌, ◌≤◌, IfErr, IfOk};
+ghost use Rattle.std.specs.Prelude.{◌≡◌, ◌≤◌, IfErr, IfOk, option_map};
 ghost use Rattle.clp_project.specs.Project.{IsProject};
 ghost use Rattle.clp_import.specs.Import.{HasText, IsFaultOfAny};
 ghost use Rattle.io_text.specs.Log.{PutsAll};
@@ -13,6 +13,17 @@ use clp_import::{ImportFault, Linked, import, refusals};
 use clp_project::{Project, ReadingOptions, joined, links_in, read_project};
 use io_text::{Sink, WriteFault, put};
 use std::alloc::Global;
+
+/// How a project is imported.
+#[derive(Clone, Copy)]
+pub struct Importing<'n> {
+    /// How a project of ClassicLadder is read.
+    pub reading: ReadingOptions,
+    /// The name of the program that is meant of a project in PLCopen XML; its only one where there is none.
+    pub pou: Option<&'n [u8]>,
+    /// Whether a fault is explained.
+    pub why: bool,
+}
 
 /// The status 1 of a request that ends with a fault, once the writer took what it could of the report.
 fn told(written: Result<(), WriteFault>) -> u8
@@ -124,24 +135,23 @@ fn carry_clp<O: Sink, E: Sink>(
 }
 
 /// Writes the program text of a project on `out`, or on `err` what is said of why there is none. A text that begins as XML does is a project in
-/// PLCopen XML, whose only program is carried over; any other is one of ClassicLadder: there is a line for each element that can't be carried
-/// over, or the line of another fault, each explained where that is asked for. The text of a HAL file, empty where there is none, gives names to
-/// inputs and outputs of a ClassicLadder project. Returns the status: 0 where the whole text was written, or 1.
+/// PLCopen XML, of which the program that is meant is carried over; any other is one of ClassicLadder: there is a line for each element that can't
+/// be carried over, or the line of another fault, each explained where that is asked for. The text of a HAL file, empty where there is none, gives
+/// names to inputs and outputs of a ClassicLadder project. Returns the status: 0 where the whole text was written, or 1.
 pub fn carry<O: Sink, E: Sink>(
     alloc: Global,
-    reading: ReadingOptions,
-    why: bool,
+    importing: Importing<'_>,
     text: &[u8],
     hal: &[u8],
     out: &mut O,
     err: &mut E,
 ) -> u8
     ensures status { result ≤ 1 }
-    ensures done { result ≡ 0 → Carries reading text.now (PutsAll (O.log out.old) (O.log out.new)) × (E.log err.new ≡ E.log err.old) }
-    ensures failed { result ≡ 1 → BreaksCarrying reading why text.now (O.log out.old) (O.log out.new) (E.log err.old) (E.log err.new) }
+    ensures done { result ≡ 0 → Carries importing.entry.reading (option_map (λ word. word.now) importing.entry.pou) text.now (PutsAll (O.log out.old) (O.log out.new)) × (E.log err.new ≡ E.log err.old) }
+    ensures failed { result ≡ 1 → BreaksCarrying importing.entry.reading importing.entry.why (option_map (λ word. word.now) importing.entry.pou) text.now (O.log out.old) (O.log out.new) (E.log err.old) (E.log err.new) }
 {
     if is_xml(text) {
-        return write_unit(alloc, why, text, out, err);
+        return write_unit(alloc, importing.why, text, importing.pou, out, err);
     }
-    carry_clp(alloc, reading, why, text, hal, out, err)
+    carry_clp(alloc, importing.reading, importing.why, text, hal, out, err)
 }

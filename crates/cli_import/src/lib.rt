@@ -1,8 +1,8 @@
-//! The request `import`: the program text of a ClassicLadder project, or the lines that say why there is none.
+//! The request `import`: the program text of a project, or the lines that say why there is none.
 #![tactic(auto)]
 
 mod carrying;
 mod faults;
 mod reason;
 
-pub use carrying::carry;
+pub use carrying::{Importing, carry};

@@ -172,7 +172,7 @@ pub(crate) fn first_unknown<'a>(decls: &Decls, request: &'a Request) -> Option<W
         | Request::Sim(_)
         | Request::Waves(_)
         | Request::Uses { .. }
-        | Request::Import { .. }
+        | Request::Import(_)
         | Request::Draw { .. }
         | Request::Export(_) => None,
     }

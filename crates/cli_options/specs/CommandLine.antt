@@ -9,8 +9,8 @@
 -- and without COIL `ladder diff [--looks N] [--reachable] [--save FOLDER] [--quiet] [--aliases] [--why] OLD NEW`
 -- and `ladder diff --runs [--states N] [--save FOLDER] [--quiet] [--aliases] [--why] OLD NEW`;
 -- `ladder draw [--why] FILE`;
--- `ladder export --st [--name NAME] [--bits] [--codesys] [--aliases] [--why] FILE`;
--- `ladder import [--open] [--control on] [--hal FILE] [--why] PROJECT`;
+-- `ladder export --st|--xml [--name NAME] [--bits] [--codesys] [--aliases] [--why] FILE`;
+-- `ladder import [--open] [--control on] [--hal FILE] [--pou NAME] [--why] PROJECT`;
 -- `ladder explain [CODE]...`; and `ladder --version`.
 use Rattle.std.specs.Prelude.{◌≡◌, List, Some, [], ◌∷◌, codes, true, false}
 use Rattle.clap.specs.Simple.{new_shape}
@@ -105,13 +105,13 @@ sim_app = taking (codes "sim") (
     )
 
 abbrev pub import_app : App
-import_app = taking (codes "import") (flag_rule (codes "open") ∷ text_rule (codes "control") ∷ text_rule (codes "hal") ∷ flag_rule (codes "why") ∷ place_rule (codes "file") ∷ [])
+import_app = taking (codes "import") (flag_rule (codes "open") ∷ text_rule (codes "control") ∷ text_rule (codes "hal") ∷ text_rule (codes "pou") ∷ flag_rule (codes "why") ∷ place_rule (codes "file") ∷ [])
 
 abbrev pub draw_app : App
 draw_app = taking (codes "draw") (flag_rule (codes "why") ∷ place_rule (codes "file") ∷ [])
 
 abbrev pub export_app : App
-export_app = taking (codes "export") (flag_rule (codes "st") ∷ text_rule (codes "name") ∷ flag_rule (codes "bits") ∷ flag_rule (codes "codesys") ∷ flag_rule (codes "aliases") ∷ flag_rule (codes "why") ∷ place_rule (codes "file") ∷ [])
+export_app = taking (codes "export") (flag_rule (codes "st") ∷ flag_rule (codes "xml") ∷ text_rule (codes "name") ∷ flag_rule (codes "bits") ∷ flag_rule (codes "codesys") ∷ flag_rule (codes "aliases") ∷ flag_rule (codes "why") ∷ place_rule (codes "file") ∷ [])
 
 abbrev pub explain_app : App
 explain_app = taking (codes "explain") (list_rule (codes "codes") ∷ [])

@@ -46,6 +46,7 @@ use crate::help::EXPLAIN_ABOUT;
 use crate::help::EXPLAIN_HELP;
 use crate::help::EXPORT_ABOUT;
 use crate::help::EXPORT_ALIASES_HELP;
+use crate::help::EXPORT_DIAGRAM_HELP;
 use crate::help::EXPORT_NAME_HELP;
 use crate::help::EXPORT_STATEMENTS_HELP;
 use crate::help::FAULTS;
@@ -72,6 +73,7 @@ use crate::help::OLD_HELP;
 use crate::help::OPEN_HELP;
 use crate::help::ORDER_HELP;
 use crate::help::PAIRS_HELP;
+use crate::help::POU_HELP;
 use crate::help::PROGRESS_HELP;
 use crate::help::PROJECT_HELP;
 use crate::help::QUIET_HELP;
@@ -282,6 +284,7 @@ const IMPORT: &[Word] = &[
     Word::Flag("open", OPEN_HELP),
     Word::Text("control", "CONTROL", CONTROL_HELP),
     Word::Text("hal", "FILE", HAL_HELP),
+    Word::Text("pou", "NAME", POU_HELP),
     Word::Flag("why", EXPLAIN_HELP),
     Word::Place("file", "PROJECT", PROJECT_HELP),
 ];
@@ -293,6 +296,7 @@ const DRAW: &[Word] = &[
 
 const EXPORT: &[Word] = &[
     Word::Flag("st", EXPORT_STATEMENTS_HELP),
+    Word::Flag("xml", EXPORT_DIAGRAM_HELP),
     Word::Text("name", "NAME", EXPORT_NAME_HELP),
     Word::Flag("bits", BITS_HELP),
     Word::Flag("codesys", CODESYS_HELP),

@@ -38,11 +38,13 @@ pub(crate) const DRAW: &str = "Examples:
 
 pub(crate) const EXPORT: &str = "Examples:
   ladder export --st plant.ld > plant.st              for a controller
-  ladder export --st --bits --codesys --name Plant plant.ld > plant.st";
+  ladder export --st --bits --codesys --name Plant plant.ld > plant.st
+  ladder export --xml --bits plant.ld > plant.xml     as a ladder diagram";
 
 pub(crate) const IMPORT: &str = "Examples:
   ladder import plant.clp > plant.ld                  from ClassicLadder
   ladder import plant.xml > plant.ld                  from PLCopen XML
+  ladder import --pou Plant plant.xml > plant.ld      one of its programs
   ladder import --hal plant.hal plant.clp > plant.ld  with its pins";
 
 pub(crate) const EXPLAIN: &str = "Examples:

@@ -3,7 +3,7 @@
 pub(crate) const E1: &str = "\
 E1: the program can't have this name
 
-`--name` gives the name of the program in the text, which is `program0` without it. It is a letter or an underscore, then letters, digits and underscores, no keyword of Structured Text, and not the name of a variable or a block of the program.
+`--name` gives the name of the program in the text, or in the project that `--xml` writes, which is `program0` without it. It is a letter or an underscore, then letters, digits and underscores, no keyword of Structured Text, and not the name of a variable or a block of the program.
 
 ```console
 $ ladder export --st --name 2nd motor.ld
@@ -23,7 +23,7 @@ PROGRAM Motor_1
 pub(crate) const E2: &str = "\
 E2: an address that has two numbers already
 
-`--bits` writes an address with one number by byte and bit: `%IX13` as `%IX1.5`. One that has two numbers can't be written so.
+`--bits` writes an address with one number by byte and bit, with `--st` and with `--xml`: `%IX13` as `%IX1.5`. One that has two numbers can't be written so.
 
 ```console
 $ sed 's/%IX1 /%IX0.1 /' motor.ld > mixed.ld
@@ -43,11 +43,11 @@ Motor := (Start OR Motor) AND NOT Stop;
 pub(crate) const E3: &str = "\
 E3: a text that would be too large
 
-The text would have more than 600 statements or more than 1,000 names. A coil, a call and an edge are a statement or two each.
+The text would have more than 600 statements or more than 1,000 names. A coil, a call and an edge are a statement or two each. A diagram is that of such statements, so with `--xml` the same holds.
 ";
 
 pub(crate) const E4: &str = "\
 E4: the text isn't the program
 
-The text is read again, and compared with the drawing; where it isn't found to do the same it isn't written. No drawing is known that has this fault: please report one.
+The text in Structured Text or in PLCopen XML is read again, and compared with the drawing; where it isn't found to do the same it isn't written. No drawing is known that has this fault: please report one.
 ";

@@ -17,7 +17,7 @@ pub(crate) const FAULTS: &str =
               carried over
   N1 to N7    the same of a project in PLCopen XML
   T1 to T10   the text is no program in Structured Text, or can't be drawn
-  E1 to E4    there is no such text of the program in Structured Text
+  E1 to E4    the program can't be exported as it is asked to
   usage       the words are not those of a request
 `ladder explain CODE` says more of each, and `ladder help COMMAND` has examples.
 Status: 0 all was written, 1 a fault stopped it, 2 wrong words.
@@ -170,8 +170,8 @@ pub(crate) const DRAW_ABOUT: &str =
 scan does what its statements do, or says why there is none";
 
 pub(crate) const EXPORT_ABOUT: &str =
-    "Writes a program in Structured Text, for a controller: each run of
-its statements does what a scan of the drawing does";
+    "Writes a program for a controller, in Structured Text or PLCopen XML:
+each run of it does what a scan of the drawing does";
 
 pub(crate) const IMPORT_ABOUT: &str =
     "Writes the program text of a project of ClassicLadder, or of one in
@@ -221,7 +221,11 @@ pub(crate) const FILE_HELP: &str = "The program: declarations and rungs; at most
 pub(crate) const STATEMENTS_HELP: &str = "The program in Structured Text, at most 1048576
 bytes, or `-` for standard input";
 
-pub(crate) const EXPORT_STATEMENTS_HELP: &str = "Structured Text (IEC 61131-3); has to be given";
+pub(crate) const EXPORT_STATEMENTS_HELP: &str = "Writes Structured Text (IEC 61131-3); this or --xml
+has to be given";
+
+pub(crate) const EXPORT_DIAGRAM_HELP: &str = "Writes a project in PLCopen XML (IEC 61131-10) with
+a ladder diagram, in place of Structured Text";
 
 pub(crate) const EXPORT_NAME_HELP: &str = "The name of the program in the text; without it
 `program0`";
@@ -243,6 +247,9 @@ pub(crate) const CONTROL_HELP: &str = "`on`: a timer without a control input has
 
 pub(crate) const HAL_HELP: &str = "A HAL file: inputs and outputs without a name in
 the project are named after its signals";
+
+pub(crate) const POU_HELP: &str = "In PLCopen XML: the program with this name, as the
+project spells it; without it the only one";
 
 pub(crate) const COIL_HELP: &str = "The variable of a coil, in any letter case; left
 out with --all-coils alone";

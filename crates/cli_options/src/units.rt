@@ -64,17 +64,19 @@ VAR
 pub(crate) const N3: &str = "\
 N3: no program, or several
 
-The project has one `pou` whose `pouType` is `program`. The word at the end of the line is `none` or `several`.
+The project has one `pou` whose `pouType` is `program`, or with `--pou NAME` one whose `name` is this one, letter for letter. The word at the end of the line is `none` or `several`.
 
 ```console
 $ sed 's/\"program\"/\"functionBlock\"/' lamp.xml | ladder import -
+fault N3 none
+$ ladder import --pou Lamp lamp.xml
 fault N3 none
 ```
 
 Corrected:
 
 ```console
-$ ladder import lamp.xml | head -n 1
+$ ladder import --pou lamp lamp.xml | head -n 1
 VAR
 ```
 ";

@@ -89,7 +89,8 @@ The status is 2. A subcommand, a file, a coil or a name is missing, an option is
 
 | | Wants | Excludes |
 |---|---|---|
-| `export FILE` | `--st` |  |
+| `export FILE` | `--st` or `--xml` |  |
+| `--st` |  | `--xml` |
 
 `ladder import`:
 

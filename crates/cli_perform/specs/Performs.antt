@@ -26,7 +26,7 @@ use Rattle.cli_views.specs.Views.{BreaksFilm, BreaksTrace, BreaksWatch, BreaksWa
 abbrev pub reading_of : Bool → Bool → ReadingOptions
 reading_of opened control_on = record { opened = opened; control_on = control_on }
 
--- the name that a program is to have in Structured Text
+-- the name that an exported program is to have
 abbrev pub name_of : Option (List ℕ) → List ℕ
 name_of name = unwrap_or name (codes "program0")
 
@@ -52,9 +52,9 @@ IsDone (request.Watch r) g old new = IsWatched g r old new
 IsDone (request.Expect r) g old new = IsExpected g r old new
 IsDone (request.Waves r) g old new = IsWaved g r.every old.out new.out × (new.save ≡ old.save) × (new.err ≡ old.err)
 IsDone (Uses file) g old new = Prints uses_text g (PutsAll old.out new.out) × (new.save ≡ old.save) × (new.err ≡ old.err)
-IsDone (Import opened control_on file hal) g old new = Carries (reading_of opened control_on) g.program (PutsAll old.out new.out) × (new.save ≡ old.save) × (new.err ≡ old.err)
+IsDone (Import r) g old new = Carries (reading_of r.opened r.control_on) (option_map string_bytes r.pou) g.program (PutsAll old.out new.out) × (new.save ≡ old.save) × (new.err ≡ old.err)
 IsDone (Draw file) g old new = Draws g.program (PutsAll old.out new.out) × (new.save ≡ old.save) × (new.err ≡ old.err)
-IsDone (Export r) g old new = Exports g (name_for r) r.bits (PutsAll old.out new.out) × (new.save ≡ old.save) × (new.err ≡ old.err)
+IsDone (Export r) g old new = Exports g r.language (name_for r) r.bits (PutsAll old.out new.out) × (new.save ≡ old.save) × (new.err ≡ old.err)
 
 -- the faults that the texts and arguments of a request can have
 abbrev pub HasFault : Request → Given → ToolFault → Type 0
@@ -74,7 +74,7 @@ HasFault (request.Watch r) g = HasWatchFault g r
 HasFault (request.Expect r) g = HasWatchFault g r.watch
 HasFault (request.Waves r) g = HasSettingFault g
 HasFault (Uses file) g = HasProgramFault g
-HasFault (Import opened control_on file hal) g = λ f. ⊥
+HasFault (Import r) g = λ f. ⊥
 HasFault (Draw file) g = λ f. ⊥
 HasFault (Export r) g = HasProgramFault g
 
@@ -98,9 +98,9 @@ Breaks (request.Expect r) g old new = BreaksExpected g r old new
 Breaks (request.Waves r) g old new = BreaksWaves g r.every old new × (new.save ≡ old.save)
 Breaks (Uses file) g old new =
     Prints uses_text g (PutsPrefix old.out new.out) × (new.save ≡ old.save) × IsReported g old.err new.err fault.Write
-Breaks (Import opened control_on file hal) g old new = BreaksCarrying (reading_of opened control_on) g.why g.program old.out new.out old.err new.err × (new.save ≡ old.save)
+Breaks (Import r) g old new = BreaksCarrying (reading_of r.opened r.control_on) g.why (option_map string_bytes r.pou) g.program old.out new.out old.err new.err × (new.save ≡ old.save)
 Breaks (Draw file) g old new = BreaksDrawing g.why g.program old.out new.out old.err new.err × (new.save ≡ old.save)
-Breaks (Export r) g old new = BreaksExport g (name_for r) r.bits old.out new.out old.err new.err × (new.save ≡ old.save)
+Breaks (Export r) g old new = BreaksExport g r.language (name_for r) r.bits old.out new.out old.err new.err × (new.save ≡ old.save)
 
 -- Status 1.
 abbrev pub IsFailed : Request → Given → Logs → Logs → Type 0

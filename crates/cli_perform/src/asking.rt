@@ -98,7 +98,7 @@ fn check_for(
         | Request::Expect(_)
         | Request::Waves(_)
         | Request::Uses { .. }
-        | Request::Import { .. }
+        | Request::Import(_)
         | Request::Draw { .. }
         | Request::Export(_) => Ok(()),
     }

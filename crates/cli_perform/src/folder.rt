@@ -43,7 +43,7 @@ fn form_of(request: &Request) -> GroupFormat {
         | Request::Expect(_)
         | Request::Waves(_)
         | Request::Uses { .. }
-        | Request::Import { .. }
+        | Request::Import(_)
         | Request::Draw { .. }
         | Request::Export(_) => GroupFormat::Table,
     }
@@ -88,7 +88,7 @@ fn state_of(request: &Request) -> Option<&str> {
         | Request::Expect(_)
         | Request::Waves(_)
         | Request::Uses { .. }
-        | Request::Import { .. }
+        | Request::Import(_)
         | Request::Draw { .. }
         | Request::Export(_) => None,
     }
@@ -113,7 +113,7 @@ fn program_of(request: &Request) -> &str {
         | Request::Expect(_)
         | Request::Waves(_)
         | Request::Uses { .. }
-        | Request::Import { .. }
+        | Request::Import(_)
         | Request::Draw { .. }
         | Request::Export(_) => "",
     }

@@ -176,7 +176,7 @@ pub(crate) fn readers_of<'a, 'p>(
             alone(opening, file.as_str())
         }
         Request::Export(export) => alone(opening, export.file.as_str()),
-        Request::Import { file, hal, .. } => imported(opening, file.as_str(), hal),
+        Request::Import(import) => imported(opening, import.file.as_str(), &import.hal),
         Request::Causes { list, .. }
         | Request::Progress { list, .. }
         | Request::Held { list, .. }

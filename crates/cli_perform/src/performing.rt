@@ -9,10 +9,10 @@ ghost use Rattle.cli_import.specs.Carrying.{BreaksCarrying, Carries};
 ghost use Rattle.cli_perform.specs.Performs.{IsDone, IsFailed, name_of, reading_of};
 ghost use Rattle.cli_inputs.specs.Setting.{HasProgramFault, given_by};
 
-use cli_arguments::{ExportRequest, Request};
+use cli_arguments::{ExportRequest, ImportRequest, Request};
 use cli_draw::write_drawing;
 use cli_export::{Exporting, write_export};
-use cli_import::carry;
+use cli_import::{Importing, carry};
 use cli_inputs::Texts;
 use cli_lists::{list_causes, list_groups, list_held, list_progress, list_relevant};
 use cli_reach::reach;
@@ -33,22 +33,37 @@ fn hal_of(texts: &Texts) -> &[u8]
     }
 }
 
-/// Writes the program text of a project, whose numbers and charts are opened or not, and with controls to which nothing is drawn ON or not.
+/// The name of the program that is meant, where it is given.
+fn pou_of(name: &Option<String>) -> Option<&[u8]>
+    ensures { option_map (λ word. word.now) result ≡ option_map string_bytes name.now }
+{
+    match name {
+        Some(name) => Some(name.as_bytes()),
+        None => None,
+    }
+}
+
+/// Writes the program text of a project.
 fn import_project<O: Sink, E: Sink>(
     alloc: Global,
-    opened: bool,
-    control_on: bool,
+    request: &ImportRequest,
     texts: &Texts,
     out: &mut O,
     err: &mut E,
 ) -> u8
     ensures status { result ≤ 1 }
-    ensures done { result ≡ 0 → Carries (reading_of opened control_on) (given_by texts.now).program (PutsAll (O.log out.old) (O.log out.new)) × (E.log err.new ≡ E.log err.old) }
-    ensures failed { result ≡ 1 → BreaksCarrying (reading_of opened control_on) (given_by texts.now).why (given_by texts.now).program (O.log out.old) (O.log out.new) (E.log err.old) (E.log err.new) }
+    ensures done { result ≡ 0 → Carries (reading_of request.now.opened request.now.control_on) (option_map string_bytes request.now.pou) (given_by texts.now).program (PutsAll (O.log out.old) (O.log out.new)) × (E.log err.new ≡ E.log err.old) }
+    ensures failed { result ≡ 1 → BreaksCarrying (reading_of request.now.opened request.now.control_on) (given_by texts.now).why (option_map string_bytes request.now.pou) (given_by texts.now).program (O.log out.old) (O.log out.new) (E.log err.old) (E.log err.new) }
 {
-    let reading = ReadingOptions { opened, control_on };
-    let hal = hal_of(texts);
-    carry(alloc, reading, texts.why, &texts.program, hal, out, err)
+    let importing = Importing {
+        reading: ReadingOptions {
+            opened: request.opened,
+            control_on: request.control_on,
+        },
+        pou: pou_of(&request.pou),
+        why: texts.why,
+    };
+    carry(alloc, importing, &texts.program, hal_of(texts), out, err)
 }
 
 /// Writes the drawing of a program in Structured Text.
@@ -70,7 +85,7 @@ fn name_of(name: &Option<String>) -> &[u8]
     }
 }
 
-/// Writes a program in Structured Text.
+/// Writes a program in the language that is asked for.
 fn export_text<O: Sink, E: Sink>(
     alloc: Global,
     request: &ExportRequest,
@@ -79,11 +94,12 @@ fn export_text<O: Sink, E: Sink>(
     err: &mut E,
 ) -> u8
     ensures status { result ≤ 1 }
-    ensures done { result ≡ 0 → Exports (given_by texts.now) (name_of (option_map string_bytes request.now.name)) request.now.bits (PutsAll (O.log out.old) (O.log out.new)) × (E.log err.new ≡ E.log err.old) }
+    ensures done { result ≡ 0 → Exports (given_by texts.now) request.now.language (name_of (option_map string_bytes request.now.name)) request.now.bits (PutsAll (O.log out.old) (O.log out.new)) × (E.log err.new ≡ E.log err.old) }
     ensures failed { (save : WriteLog) → result ≡ 1 → Refuses (given_by texts.now) (HasProgramFault (given_by texts.now)) (logs (O.log out.old) save (E.log err.old)) (logs (O.log out.new) save (E.log err.new))
-        ⊎ BreaksExport (given_by texts.now) (name_of (option_map string_bytes request.now.name)) request.now.bits (O.log out.old) (O.log out.new) (E.log err.old) (E.log err.new) }
+        ⊎ BreaksExport (given_by texts.now) request.now.language (name_of (option_map string_bytes request.now.name)) request.now.bits (O.log out.old) (O.log out.new) (E.log err.old) (E.log err.new) }
 {
     let exporting = Exporting {
+        language: request.language,
         name: name_of(&request.name),
         bits: request.bits,
         codesys: request.codesys,
@@ -143,11 +159,7 @@ pub fn perform<O: Sink, S: Sink, E: Sink>(
         Request::Watch(watched) => watch(alloc, watched, texts, out, save, err),
         Request::Expect(expected) => expect(alloc, expected, texts, out, save, err),
         Request::Waves(waves) => wave(alloc, texts, waves.every, out, err),
-        Request::Import {
-            opened,
-            control_on,
-            ..
-        } => import_project(alloc, *opened, *control_on, texts, out, err),
+        Request::Import(import) => import_project(alloc, import, texts, out, err),
         Request::Draw { .. } => draw_text(alloc, texts, out, err),
         Request::Export(export) => export_text(alloc, export, texts, out, err),
         Request::Sim(sim) => { trace(alloc, texts, sim.every, sim.save.is_some(), out, save, err) }

@@ -306,7 +306,7 @@ fn saving_of(request: &Request) -> Option<Saving<'_>> {
         | Request::Film(_)
         | Request::Waves(_)
         | Request::Uses { .. }
-        | Request::Import { .. }
+        | Request::Import(_)
         | Request::Draw { .. }
         | Request::Export(_) => None,
     }

@@ -26,7 +26,7 @@ pub fn ask_of(request: &mut Request, coil: String)
         | Request::Expect(_)
         | Request::Waves(_)
         | Request::Uses { .. }
-        | Request::Import { .. }
+        | Request::Import(_)
         | Request::Draw { .. }
         | Request::Export(_) => (),
     }
@@ -53,7 +53,7 @@ pub fn is_quiet(request: &Request) -> bool
         | Request::Expect(_)
         | Request::Waves(_)
         | Request::Uses { .. }
-        | Request::Import { .. }
+        | Request::Import(_)
         | Request::Draw { .. }
         | Request::Export(_) => false,
     }

@@ -1,5 +1,5 @@
--- How `ladder import` ends for a text in XML: the program text of its only program is written, or what is said of why there is none.
-use Rattle.std.specs.Prelude.{◌≡◌, ◌⊎◌, ℕ, Bool, List, None}
+-- How `ladder import` ends for a text in XML: the program text of one of its programs is written, or what is said of why there is none.
+use Rattle.std.specs.Prelude.{◌≡◌, ◌⊎◌, ℕ, Bool, List, Option}
 use Rattle.xml_document.specs.declared.document.Document.{Document}
 use Rattle.xml_document.specs.declared.fault.XmlFault.{XmlFault}
 use Rattle.xml_document.specs.Documents.{IsDocument}
@@ -13,12 +13,13 @@ use Rattle.io_text.specs.Log.{PutsAll, PutsPrefix, WriteLog}
 use Rattle.cli_plc.specs.Lines.{unit_text}
 use Rattle.cli_plc.specs.Xml.{xml_text}
 
--- The text is a document of a project with one program, and a program text of it is written, whole or as far as `Written` says.
-pub record CarriesUnit (text : List ℕ) (Written : List ℕ → Type 0) : Type 0 where
+-- The text is a document of a project with the program that is asked for, by its name or as the only one, and a program text of it is written, whole or
+-- as far as `Written` says.
+pub record CarriesUnit (name : Option (List ℕ)) (text : List ℕ) (Written : List ℕ → Type 0) : Type 0 where
   pub document : List Item
   pub is : IsDocument text document
   pub drawn : List ℕ
-  pub imported : IsImported document None drawn
+  pub imported : IsImported document name drawn
   pub written : Written drawn
 
 -- What is said where there is no program text: why the text is no document.
@@ -36,6 +37,6 @@ pub record SaysOfUnit (why : Bool) (text : List ℕ) (old new : WriteLog) : Type
   pub written : PutsAll old new said ⊎ PutsPrefix old new said
 
 -- Status 1: there is no program text, and nothing is on `out`; or `out` failed.
-abbrev pub BreaksUnit : Bool → List ℕ → WriteLog → WriteLog → WriteLog → WriteLog → Type 0
-BreaksUnit why text out out' err err' =
-    ((out' ≡ out) × SaysOfUnit why text err err') ⊎ (CarriesUnit text (PutsPrefix out out') × IsReported (unread why) err err' fault.Write)
+abbrev pub BreaksUnit : Bool → (name : Option (List ℕ)) → (text : List ℕ) → WriteLog → WriteLog → WriteLog → WriteLog → Type 0
+BreaksUnit why name text out out' err err' =
+    ((out' ≡ out) × SaysOfUnit why text err err') ⊎ (CarriesUnit name text (PutsPrefix out out') × IsReported (unread why) err err' fault.Write)

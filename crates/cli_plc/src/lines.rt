@@ -126,9 +126,11 @@ fn sentence(fault: PlcImportFault) -> &'static [u8]
         PlcImportFault::Unit(PlcFault::NoProject) => {
             b"N1: the document is no PLCopen project: its root isn't a project with types and pous\n"
         }
-        PlcImportFault::Unit(PlcFault::NoProgram) => { b"N3: no pou of the project is a program\n" }
+        PlcImportFault::Unit(PlcFault::NoProgram) => {
+            b"N3: no pou of the project is a program, or with --pou none has this name\n"
+        }
         PlcImportFault::Unit(PlcFault::SeveralPrograms) => {
-            b"N3: several pous of the project are programs\n"
+            b"N3: several pous of the project are programs, and --pou names one; or with it several have this name\n"
         }
         PlcImportFault::Unit(PlcFault::OtherLanguage) => {
             b"N4: the body of the program isn't one ladder diagram\n"

@@ -73,7 +73,9 @@ pub(crate) fn reason_sentence(reason: PlcReason) -> &'static [u8]
         }
         PlcReason::Preset => { b"N5: the preset is no literal\n" }
         PlcReason::NoPreset => { b"N5: the preset of the block is missing\n" }
-        PlcReason::Jump => { b"N5: jumps aren't carried over\n" }
+        PlcReason::Jump => {
+            b"N5: a jump leads down, to one label, and not into or out of what another one passes over\n"
+        }
         PlcReason::Connection => { b"N5: no element has the number that a connection refers to\n" }
         PlcReason::Powerless => { b"N5: it is connected with something that has no power\n" }
         PlcReason::Unconnected => { b"N5: nothing is connected on the left of the contact\n" }

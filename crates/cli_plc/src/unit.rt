@@ -1,6 +1,6 @@
 //! The import of a text in XML.
 
-ghost use Rattle.std.specs.Prelude.{◌≡◌, ◌≤◌};
+ghost use Rattle.std.specs.Prelude.{◌≡◌, ◌≤◌, option_map};
 ghost use Rattle.xml_document.specs.Documents.{IsDocument};
 ghost use Rattle.xml_document.specs.Items.{items_of};
 ghost use Rattle.io_text.specs.Log.{PutsAll};
@@ -30,15 +30,16 @@ fn write_document<O: Sink, E: Sink>(
     why: bool,
     text: &[u8],
     document: &Document,
+    name: Option<&[u8]>,
     out: &mut O,
     err: &mut E,
 ) -> u8
     requires { IsDocument text.now (items_of document.now) }
     ensures status { result ≤ 1 }
-    ensures done { result ≡ 0 → CarriesUnit text.now (PutsAll (O.log out.old) (O.log out.new)) × (E.log err.new ≡ E.log err.old) }
-    ensures failed { result ≡ 1 → BreaksUnit why text.now (O.log out.old) (O.log out.new) (E.log err.old) (E.log err.new) }
+    ensures done { result ≡ 0 → CarriesUnit (option_map (λ word. word.now) name.entry) text.now (PutsAll (O.log out.old) (O.log out.new)) × (E.log err.new ≡ E.log err.old) }
+    ensures failed { result ≡ 1 → BreaksUnit why (option_map (λ word. word.now) name.entry) text.now (O.log out.old) (O.log out.new) (E.log err.old) (E.log err.new) }
 {
-    match import_plc(alloc, document, None) {
+    match import_plc(alloc, document, name) {
         Ok(drawn) => match put(out, &drawn) {
             Ok(()) => 0,
             Err(_) => report_unread(why, &ToolFault::Write, err),
@@ -47,21 +48,23 @@ fn write_document<O: Sink, E: Sink>(
     }
 }
 
-/// Writes the program text of the only program of a project in PLCopen XML on `out`, or on `err` the line of the fault for which there is none,
-/// explained where that is asked for. Returns the status: 0 where the whole text was written, or 1.
+/// Writes the program text of a program of a project in PLCopen XML on `out`, or on `err` the line of the fault for which there is none,
+/// explained where that is asked for. The program is the unit with a name, or the only one that is a program. Returns the status: 0 where the
+/// whole text was written, or 1.
 pub fn write_unit<O: Sink, E: Sink>(
     alloc: Global,
     why: bool,
     text: &[u8],
+    name: Option<&[u8]>,
     out: &mut O,
     err: &mut E,
 ) -> u8
     ensures status { result ≤ 1 }
-    ensures done { result ≡ 0 → CarriesUnit text.now (PutsAll (O.log out.old) (O.log out.new)) × (E.log err.new ≡ E.log err.old) }
-    ensures failed { result ≡ 1 → BreaksUnit why text.now (O.log out.old) (O.log out.new) (E.log err.old) (E.log err.new) }
+    ensures done { result ≡ 0 → CarriesUnit (option_map (λ word. word.now) name.entry) text.now (PutsAll (O.log out.old) (O.log out.new)) × (E.log err.new ≡ E.log err.old) }
+    ensures failed { result ≡ 1 → BreaksUnit why (option_map (λ word. word.now) name.entry) text.now (O.log out.old) (O.log out.new) (E.log err.old) (E.log err.new) }
 {
     match read_document(alloc, text) {
-        Ok(document) => write_document(alloc, why, text, &document, out, err),
+        Ok(document) => write_document(alloc, why, text, &document, name, out, err),
         Err(fault) => told(write_xml_fault(why, text, fault, err)),
     }
 }

@@ -209,7 +209,14 @@ const FORMS: &[Rule] = &[
     ),
 ];
 
-const EXPORT: &[Rule] = &[Rule::Wants(&[Term::Place("file", "export FILE")], &[Term::Flag("st")])];
+const EXPORT: &[Rule] = &[
+    Rule::Wants(
+        &[Term::Place("file", "export FILE")],
+        &[Term::Flag("st"), Term::Flag("xml")],
+    ),
+    // A program is written in one language.
+    Rule::Excludes(&[Term::Flag("st")], &[Term::Flag("xml")]),
+];
 
 /// The rules of a subcommand; none where there is no such subcommand.
 pub fn rules_of(name: &str) -> &'static [Rule] {

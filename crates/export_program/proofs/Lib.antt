@@ -1,2 +1,3 @@
+pub mod By
 mod Begins
 mod Prefixes

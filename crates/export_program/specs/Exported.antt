@@ -21,14 +21,18 @@ use Rattle.export_program.specs.Declarations.{AreExported}
 abbrev pub begun : StProgram → Held
 begun p = held (map (λ x. x.initial) p.variables.items) [] (map (λ x. new_block x.kind) p.instances.items)
 
--- The bytes are a program in Structured Text that declares what the drawing declares. The states in which both begin match, and each run of the
--- statements does what a scan of the drawing does.
-pub record IsExported (form : AddressForm) (d : Drawing) (text : List ℕ) : Type 0 where
-  pub program : StProgram
+-- The bytes are this program in Structured Text, which declares what the drawing declares. The states in which both begin match, and each run of
+-- the statements does what a scan of the drawing does.
+pub record IsExportedBy (form : AddressForm) (d : Drawing) (text : List ℕ) (program : StProgram) : Type 0 where
   pub read : IsStProgram text program
   pub declared : AreExported form text d.decls program.variables.items program.instances.items
   pub begins : AreMatched d (length program.variables.items) (fresh d).held (begun program)
   pub does : IsExportOf d (length program.variables.items) program.statements
+
+-- The bytes are such a program.
+pub record IsExported (form : AddressForm) (d : Drawing) (text : List ℕ) : Type 0 where
+  pub program : StProgram
+  pub by : IsExportedBy form d text program
 
 -- How addresses are written.
 abbrev pub addresses : (bits : Bool) → AddressForm

@@ -3,7 +3,7 @@
 ghost use Rattle.std.specs.Prelude.{◌≤◌, ◌+◌, IfErr, IfOk, IsTrue, length};
 ghost use Rattle.diagram_program.specs.Program.{memories_of};
 ghost use Rattle.st_program.specs.Programs.{IsStProgram};
-ghost use Rattle.export_program.specs.Exported.{IsExported};
+ghost use Rattle.export_program.specs.Exported.{IsExported, IsExportedBy};
 ghost use Rattle.export_program.specs.Refusals.{IsOfText};
 
 use crate::fault::ExportFault;
@@ -15,7 +15,7 @@ use st_program::{Refusal, StFault, StProgram, read_st_program};
 use std::alloc::{AllocError, Global};
 
 /// The program in Structured Text that a text is.
-fn read_again(alloc: Global, text: &[u8]) -> Result<StProgram, ExportFault>
+pub(crate) fn read_again(alloc: Global, text: &[u8]) -> Result<StProgram, ExportFault>
     ensures read { IfOk result (IsStProgram text.now) }
     ensures refused { IfErr result IsOfText }
 {
@@ -38,7 +38,7 @@ fn are_enough(program: &Program, variables: usize) -> bool
 }
 
 /// Whether a text that was read declares what a ladder program declares, and does what it does.
-fn is_program(
+pub(crate) fn is_program(
     alloc: Global,
     form: AddressForm,
     program: &Program,
@@ -46,7 +46,7 @@ fn is_program(
     read: &StProgram,
 ) -> Result<bool, AllocError>
     requires { IsStProgram text.now read.now }
-    ensures { IfOk result (λ is. IsTrue is → IsExported form program.now text.now) }
+    ensures { IfOk result (λ is. IsTrue is → IsExportedBy form program.now text.now read.now) }
 {
     let variables = read.variables.as_slice();
     if !are_exported(form, text, program.decls(), variables, &read.instances) {

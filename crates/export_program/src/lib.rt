@@ -11,4 +11,4 @@ mod writing;
 pub use exporting::check_export;
 pub use fault::ExportFault;
 pub use form::AddressForm;
-pub use writing::export;
+pub use writing::{Exported, export, export_program};

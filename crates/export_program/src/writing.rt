@@ -1,16 +1,17 @@
 //! A program, written and compared with what was written.
 
 ghost use Rattle.std.specs.Prelude.{◌≡◌, IfErr, IfOk, IsTrue, position};
-ghost use Rattle.export_program.specs.Exported.{IsExported, IsExportedAs, IsRefused, IsTitled, addresses, can_be_called, has_two_numbers, unwritable};
+ghost use Rattle.export_program.specs.Exported.{IsExported, IsExportedAs, IsExportedBy, IsRefused, IsTitled, addresses, can_be_called, has_two_numbers, unwritable};
 ghost use Rattle.export_program.specs.Refusals.{IsOfText};
 
-use crate::exporting::check_export;
+use crate::exporting::{is_program, read_again};
 use crate::fault::ExportFault;
 use crate::form::AddressForm;
 use crate::naming::behind;
 use diagram_declarations::{Decls, Var};
 use diagram_program::Program;
 use export_text::{Form, is_declared, is_name, write_st};
+use st_program::StProgram;
 use std::alloc::Global;
 
 /// How a text of this form writes addresses.
@@ -71,18 +72,56 @@ fn is_titled(text: &[u8], name: &[u8]) -> bool
     }
 }
 
+/// A text, and the program in Structured Text that it is.
+#[derive(Drop)]
+pub struct Exported {
+    pub text: Vec<u8>,
+    pub program: StProgram,
+}
+
 /// The text of a program, written and looked at again.
-fn written(alloc: Global, program: &Program, form: Form<'_>) -> Result<Vec<u8>, ExportFault>
-    ensures exported { IfOk result (λ text. IsExported (addresses form.entry.bits) program.now text.items) }
-    ensures titled { IfOk result (λ text. IsTitled form.entry.name.now text.items) }
+fn written(alloc: Global, program: &Program, form: Form<'_>) -> Result<Exported, ExportFault>
+    ensures exported { IfOk result (λ x. IsExported (addresses form.entry.bits) program.now x.text.items) }
+    ensures by { IfOk result (λ x. IsExportedBy (addresses form.entry.bits) program.now x.text.items x.program) }
+    ensures titled { IfOk result (λ x. IsTitled form.entry.name.now x.text.items) }
     ensures refused { IfErr result IsOfText }
 {
     let text = write_st(alloc, program, form)?;
-    check_export(alloc, addresses(form), program, &text)?;
+    let read = read_again(alloc, &text)?;
+    if !is_program(alloc, addresses(form), program, &text, &read)? {
+        return Err(ExportFault::NotFaithful);
+    }
     if is_titled(&text, form.name) {
-        Ok(text)
+        Ok(Exported {
+            text,
+            program: read,
+        })
     } else {
         Err(ExportFault::NotFaithful)
+    }
+}
+
+/// The program in Structured Text, with its text, which declares what a ladder program declares, and each run of which does what a scan of that
+/// program does.
+///
+/// # Errors
+///
+/// As of `export`.
+pub fn export_program(
+    alloc: Global,
+    program: &Program,
+    form: Form<'_>,
+) -> Result<Exported, ExportFault>
+    ensures by { IfOk result (λ x. IsExportedBy (addresses form.entry.bits) program.now x.text.items x.program) }
+    ensures exported { IfOk result (λ x. IsExportedAs (addresses form.entry.bits) form.entry.name.now program.now x.text.items) }
+    ensures refused { IfErr result (IsRefused (addresses form.entry.bits) form.entry.name.now program.now) }
+{
+    if !can_be_called(program.decls(), form.name) {
+        return Err(ExportFault::ProgramName);
+    }
+    match unwritable(addresses(form), program.decls()) {
+        Some(variable) => Err(ExportFault::TwoNumbers { variable }),
+        None => written(alloc, program, form),
     }
 }
 
@@ -98,11 +137,6 @@ pub fn export(alloc: Global, program: &Program, form: Form<'_>) -> Result<Vec<u8
     ensures exported { IfOk result (λ text. IsExportedAs (addresses form.entry.bits) form.entry.name.now program.now text.items) }
     ensures refused { IfErr result (IsRefused (addresses form.entry.bits) form.entry.name.now program.now) }
 {
-    if !can_be_called(program.decls(), form.name) {
-        return Err(ExportFault::ProgramName);
-    }
-    match unwritable(addresses(form), program.decls()) {
-        Some(variable) => Err(ExportFault::TwoNumbers { variable }),
-        None => written(alloc, program, form),
-    }
+    let Exported { text, .. } = export_program(alloc, program, form)?;
+    Ok(text)
 }

@@ -7,10 +7,10 @@ use crate::piece::{Piece, negative, positive};
 use crate::rung::Rung;
 use crate::statements::{Style, WIDTH};
 use crate::symbol::Symbol;
-use crate::table::Part;
 use diagram_declarations::{BlockKind, Instance};
 use diagram_program::gates::Action;
 use diagram_program::{Cell, CoilMode, Program};
+use io_table::Part;
 
 /// How wide an assignment and the end of its `IF` are beside the name.
 const LATCH: usize = 20;
@@ -110,8 +110,11 @@ impl Rung<'_> {
         self.pieces(power) == self.pieces(other)
     }
 
-    /// How many of the next cells are set or reset by the same power.
+    /// How many of the next cells are set or reset by the same power, in one `IF`.
     fn shared(&mut self, place: usize, next: &[Action]) -> usize {
+        if self.elements {
+            return 0;
+        }
         let node = self.network.left(place);
         let power = self.expression(node);
         for (number, action) in next.iter().enumerate() {
@@ -290,6 +293,9 @@ impl Rung<'_> {
         let Some(before) = done.last() else {
             return false;
         };
+        if self.elements {
+            return false;
+        }
         if latch_of(before.cell).is_none() || latch_of(action.cell).is_none() {
             return false;
         }
@@ -322,6 +328,30 @@ impl Rung<'_> {
             | Cell::Lower { .. }
             | Cell::Jump { .. }
             | Cell::Return => {}
+        }
+    }
+
+    /// Makes the helpers for wires on the way to a cell.
+    fn wire_action(&mut self, action: &Action) {
+        let place = action.place as usize;
+        if matches!(action.cell, Cell::Coil { .. } | Cell::Block { .. }) {
+            self.wire_to(place);
+        }
+        if matches!(action.cell, Cell::Block { .. }) && self.network.has_second(place) {
+            self.wire_to(place.saturating_add(1));
+        }
+    }
+
+    /// Makes the helpers for wires on the way to the cells, and to a jump.
+    fn wire_actions(&mut self, actions: &[Action], jump: Option<usize>) {
+        if !self.elements {
+            return;
+        }
+        for action in actions {
+            self.wire_action(action);
+        }
+        if let Some(place) = jump {
+            self.wire_to(place);
         }
     }
 
@@ -379,11 +409,15 @@ impl Rung<'_> {
         }
         self.begin(program, rung, indent);
         let actions = program.actions(rung);
-        self.plan_actions(actions);
         let Some((row, column, target)) = program.jump(rung) else {
+            self.wire_actions(actions, None);
+            self.plan_actions(actions);
             return self.write_actions(program, actions);
         };
-        let node = self.network.left(place_of(column, row));
+        let place = place_of(column, row);
+        self.wire_actions(actions, Some(place));
+        self.plan_actions(actions);
+        let node = self.network.left(place);
         self.plan(node, actions, None);
         self.write_actions(program, actions);
         let flag = if target < program.rungs() {
@@ -391,7 +425,6 @@ impl Rung<'_> {
         } else {
             None
         };
-        let node = self.network.left(place_of(column, row));
         self.write_jump(node, flag, actions);
     }
 }

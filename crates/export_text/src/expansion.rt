@@ -2,9 +2,9 @@
 
 use crate::network::Network;
 use crate::node::{Node, RAIL};
-use crate::piece::{Piece, negative, only, symbol_in};
-use crate::table::{Part, Table};
+use crate::piece::{Piece, negative, only, positive, symbol_in};
 use diagram_program::geometry::{COLUMNS, ROWS};
+use io_table::{Part, Table};
 use std::alloc::Global;
 
 /// The most steps that an expression is written in.
@@ -20,9 +20,11 @@ pub(crate) enum Task {
         target: Node,
         is_last: bool,
     },
-    /// What a node adds to its next one; it needs no parentheses where it is all of an expression.
+    /// What a node adds to its next one, where its branches meet; they are written from the target on. It needs no parentheses where it is all
+    /// of an expression.
     Part {
         node: Node,
+        next: Node,
         target: Node,
         is_all: bool,
     },
@@ -36,6 +38,8 @@ pub(crate) struct Expressions {
     pub tasks: Table<Task>,
     /// How many literals the last one has.
     pub literals: usize,
+    /// The node next to the rail from which wires lead past contacts in the last one, and no helper stands for them: `TRUE` is an operand there.
+    pub wired: Option<Node>,
 }
 
 impl Expressions {
@@ -45,6 +49,7 @@ impl Expressions {
             pieces: Table::new(alloc),
             tasks: Table::new(alloc),
             literals: 0,
+            wired: None,
         }
     }
 
@@ -54,15 +59,16 @@ impl Expressions {
             return self.tasks.push(Task::Put(Piece::Constant(true)));
         }
         let mut part = node;
-        let is_all = is_last && network.next(node).is(target);
+        let is_all = is_last && network.start(node).is(target);
         for _ in 0..=COLUMNS {
-            let next = network.next(part);
+            let (next, start) = (network.next(part), network.start(part));
             self.tasks.push(Task::Part {
                 node: part,
-                target: next,
+                next,
+                target: start,
                 is_all,
             });
-            if next.is(target) || next.column == 0 {
+            if start.is(target) || start.column == 0 {
                 break;
             }
             self.tasks.push(Task::Put(Piece::And));
@@ -70,11 +76,11 @@ impl Expressions {
         }
     }
 
-    /// Divides what a node adds into its branches, the upper ones first.
-    fn branch(&mut self, network: &Network, node: Node, target: Node) {
+    /// Divides what a node adds into its branches, which meet at the next one, the upper ones first.
+    fn branch(&mut self, network: &Network, node: Node, next: Node, target: Node) {
         let mut rows = node;
         for number in 0..ROWS {
-            let last = network.last_branch(rows, target);
+            let last = network.last_branch(rows, next);
             self.tasks.push(Task::Power {
                 node: network.behind_wires(last),
                 target,
@@ -89,7 +95,7 @@ impl Expressions {
     }
 
     /// Writes what a node adds, or divides it into branches.
-    fn part(&mut self, network: &Network, node: Node, target: Node, is_all: bool) {
+    fn part(&mut self, network: &Network, node: Node, next: Node, target: Node, is_all: bool) {
         if let Some(piece) = network.piece(node) {
             return self.put(piece);
         }
@@ -97,7 +103,22 @@ impl Expressions {
             self.put(Piece::Open);
             self.tasks.push(Task::Put(Piece::Close));
         }
-        self.branch(network, node, target);
+        self.branch(network, node, next, target);
+    }
+
+    /// Writes a branch that is a wire from a node: the helper that stands for it, or `TRUE`.
+    fn wire(&mut self, network: &Network, node: Node) {
+        if let Some(helper) = network.wire(node) {
+            return self.put(positive(helper));
+        }
+        let is_nearer = match self.wired {
+            Some(found) => node.column < found.column,
+            None => true,
+        };
+        if is_nearer {
+            self.wired = Some(node);
+        }
+        self.put(Piece::Constant(true));
     }
 
     /// Writes a piece.
@@ -111,6 +132,7 @@ impl Expressions {
     /// Does a task.
     fn perform(&mut self, network: &Network, task: Task) {
         match task {
+            Task::Power { node, target, .. } if node.is(target) => self.wire(network, node),
             Task::Power {
                 node,
                 target,
@@ -118,9 +140,10 @@ impl Expressions {
             } => self.divide(network, node, target, is_last),
             Task::Part {
                 node,
+                next,
                 target,
                 is_all,
-            } => self.part(network, node, target, is_all),
+            } => self.part(network, node, next, target, is_all),
             Task::Put(piece) => self.put(piece),
         }
     }
@@ -130,6 +153,7 @@ impl Expressions {
         let from = self.pieces.len();
         self.tasks.truncate(0);
         self.literals = 0;
+        self.wired = None;
         self.divide(network, node, RAIL, true);
         for _ in 0..MOST_STEPS {
             let Some(task) = self.tasks.pop() else {

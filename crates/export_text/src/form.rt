@@ -11,4 +11,6 @@ pub struct Form<'f> {
     pub codesys: bool,
     /// Aliases are written as names.
     pub titles: bool,
+    /// Each statement is one that an element of a ladder diagram does by itself.
+    pub elements: bool,
 }

@@ -1,8 +1,8 @@
 //! The jumps that pass over rungs.
 
-use crate::table::Table;
 use diagram_program::Program;
 use diagram_program::gates::Leap;
+use io_table::Table;
 use std::alloc::Global;
 
 /// The jumps to rungs, in the order of the rungs that they are in. Each has a flag.

@@ -20,7 +20,6 @@ mod program;
 mod rung;
 mod statements;
 mod symbol;
-mod table;
 mod text;
 
 pub use form::Form;

@@ -2,9 +2,9 @@
 
 use crate::keywords::{is_declared, is_name};
 use crate::symbol::Symbol;
-use crate::table::{Part, Table};
 use crate::text::Text;
 use diagram_declarations::{Decls, same_letters};
+use io_table::{Part, Table};
 use itoa::Buffer;
 use std::alloc::Global;
 

@@ -3,9 +3,9 @@
 use crate::node::{Node, RAIL};
 use crate::piece::{Piece, negative, positive};
 use crate::symbol::Symbol;
-use crate::table::Table;
 use diagram_program::geometry::{COLUMNS, PLACES, Place, ROWS};
 use diagram_program::{Cell, Mode, Operand, Program};
+use io_table::Table;
 use std::alloc::Global;
 
 /// A node whose power a helper has.
@@ -13,6 +13,8 @@ use std::alloc::Global;
 pub(crate) struct Kept {
     node: Node,
     helper: Symbol,
+    /// The helper stands for the wires that lead from the node past contacts.
+    is_wired: bool,
 }
 
 /// The network of a rung, place by place: columns from the left, and in each from the top row.
@@ -151,9 +153,23 @@ impl Network {
         None
     }
 
-    /// Says that a helper has the power of a node.
-    pub(crate) fn keep(&mut self, node: Node, helper: Symbol) {
-        self.kept.push(Kept { node, helper });
+    /// The helper that stands for the wires that lead from a node past contacts.
+    pub(crate) fn wire(&self, node: Node) -> Option<Symbol> {
+        for kept in self.kept.items() {
+            if kept.is_wired && kept.node.is(node) {
+                return Some(kept.helper);
+            }
+        }
+        None
+    }
+
+    /// Says that a helper has the power of a node, and whether it stands for wires.
+    pub(crate) fn keep(&mut self, node: Node, helper: Symbol, is_wired: bool) {
+        self.kept.push(Kept {
+            node,
+            helper,
+            is_wired,
+        });
         self.join();
     }
 
@@ -238,6 +254,16 @@ impl Network {
         match node.only() {
             Some(row) => self.next_of_row(node.column, row),
             None => self.meeting_of(node),
+        }
+    }
+
+    /// Where the branches of a node begin in an expression: at its next node, or at the left rail where a helper stands for a wire from there.
+    pub(crate) fn start(&self, node: Node) -> Node {
+        let next = self.next(node);
+        if self.wire(next).is_some() && self.piece(node).is_none() {
+            RAIL
+        } else {
+            next
         }
     }
 

@@ -8,10 +8,10 @@ use crate::paragraphs::Paragraphs;
 use crate::piece::{Piece, positive};
 use crate::rung::Rung;
 use crate::symbol::Symbol;
-use crate::table::{Part, Table};
 use crate::text::Text;
 use diagram_program::Program;
 use diagram_program::gates::Leap;
+use io_table::{Part, Table};
 use std::alloc::{AllocError, Global};
 
 /// The statements of all rungs, while they are written.
@@ -122,7 +122,7 @@ fn course_of<'p>(alloc: Global, program: &'p Program, form: Form<'p>) -> Course<
     names.fill(form.titles, program.memories(), jumps.len());
     let mut course = Course {
         jumps,
-        rung: Rung::new(alloc, names, form.codesys),
+        rung: Rung::new(alloc, names, form),
         text: Text::new(alloc),
         guarded: Paragraphs::new(alloc),
         paragraphs: Paragraphs::new(alloc),

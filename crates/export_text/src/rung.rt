@@ -1,17 +1,18 @@
 //! What is known while the statements of a rung are written.
 
 use crate::expansion::Expressions;
+use crate::form::Form;
 use crate::names::Names;
 use crate::network::Network;
 use crate::node::Node;
 use crate::piece::{Piece, negative, only, positive, symbol_in};
 use crate::statements::Style;
 use crate::symbol::Symbol;
-use crate::table::{Part, Table};
 use crate::text::Text;
 use diagram_program::gates::Action;
 use diagram_program::geometry::PLACES;
 use diagram_program::{Cell, Mode, Program};
+use io_table::{Part, Table};
 use std::alloc::Global;
 
 /// The most literals of an expression.
@@ -48,6 +49,8 @@ pub(crate) struct Rung<'p> {
     pub indent: usize,
     /// The inputs of bistables are spelled as CODESYS has them.
     pub codesys: bool,
+    /// Each statement is one that an element of a ladder diagram does by itself.
+    pub elements: bool,
     /// What the cells do.
     pub body: Text,
 }
@@ -129,7 +132,7 @@ fn is_lasting(pieces: &[Piece], written: Option<usize>) -> bool {
 
 impl<'p> Rung<'p> {
     /// A rung of which nothing is written.
-    pub(crate) fn new(alloc: Global, names: Names<'p>, codesys: bool) -> Rung<'p> {
+    pub(crate) fn new(alloc: Global, names: Names<'p>, form: Form<'_>) -> Rung<'p> {
         Rung {
             names,
             network: Network::new(alloc),
@@ -137,7 +140,8 @@ impl<'p> Rung<'p> {
             helped: Table::new(alloc),
             powers: Table::new(alloc),
             indent: 0,
-            codesys,
+            codesys: form.codesys,
+            elements: form.elements,
             body: Text::new(alloc),
         }
     }
@@ -309,19 +313,47 @@ impl<'p> Rung<'p> {
         }
     }
 
+    /// A helper with the power of an expression, as soon as that is there.
+    fn helper_with(&mut self, expression: Part) -> Symbol {
+        let pieces = self.resolved(expression, &[]);
+        if self.is_late(pieces) {
+            self.new_power(pieces, true)
+        } else {
+            self.early(pieces)
+        }
+    }
+
     /// Gives a helper to a node with many literals.
     fn divide_at(&mut self, node: Node) {
         let found = self.expressions.power(&self.network, node, usize::MAX);
         if let Some(pieces) = found {
             if self.expressions.literals > MANY_LITERALS {
-                let pieces = self.resolved(pieces, &[]);
-                let helper = if self.is_late(pieces) {
-                    self.new_power(pieces, true)
-                } else {
-                    self.early(pieces)
-                };
-                self.network.keep(node, helper);
+                let helper = self.helper_with(pieces);
+                self.network.keep(node, helper, false);
             }
+        }
+    }
+
+    /// Gives a helper to a node that stands for the wires from there.
+    fn wire_from(&mut self, node: Node) {
+        let found = self.expressions.power(&self.network, node, usize::MAX);
+        if let Some(pieces) = found {
+            let helper = self.helper_with(pieces);
+            self.network.keep(node, helper, true);
+        }
+    }
+
+    /// Gives helpers to the nodes from which wires lead past contacts on the way to a place, so that no constant is an operand there.
+    pub(crate) fn wire_to(&mut self, place: usize) {
+        let node = self.network.left(place);
+        for _ in 0..=PLACES {
+            let from = self.expressions.pieces.len();
+            let _power = self.expressions.power(&self.network, node, usize::MAX);
+            self.expressions.pieces.truncate(from);
+            let Some(start) = self.expressions.wired else {
+                return;
+            };
+            self.wire_from(start);
         }
     }
 

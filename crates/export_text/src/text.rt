@@ -1,6 +1,6 @@
 //! A text as it is written.
 
-use crate::table::Table;
+use io_table::Table;
 use itoa::Buffer;
 use std::alloc::Global;
 

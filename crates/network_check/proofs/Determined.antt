@@ -1,12 +1,12 @@
 -- What elements leave is one thing.
-use Rattle.std.proofs.Common.{◌≡◌, ℕ, Bool, true, false, List, refl, subst, sym}
+use Rattle.std.proofs.Common.{◌≡◌, ℕ, Bool, true, false, List, drop, refl, subst, sym}
 use Rattle.diagram_declarations.specs.declared.decls.Instance.{Instance}
 use Rattle.scan_cycle.specs.Rung.{Held}
 use Rattle.st_statements.specs.Run.{Ran, called, triggered}
 use Rattle.network_power.specs.declared.network.Links.{Links}
 use Rattle.network_power.specs.declared.network.Network.{Network}
 use Rattle.network_check.specs.declared.effect.Effect.{Effect}
-use Rattle.network_check.specs.Runs.{Has, inverse_if, stored, Runs, end, coil, trigger, call, returned, passed}
+use Rattle.network_check.specs.Runs.{Has, inverse_if, stored, Runs, end, coil, trigger, call, returned, passed, jumped, not_jumped, label}
 
 one_power : (net : Network) (h : Held) (left : Links) (a b : Bool) → Has net h left a → Has net h left b → b ≡ a
 one_power net h left true true one two = refl
@@ -33,3 +33,10 @@ module _ (net : Network) (instances : List Instance) (now : ℕ) where
       let same : false ≡ true = one_power net h left true false has has_too in cc
   determined _ h r s (passed left effects _ _ has runs) (returned _ _ _ has_too) =
       let same : true ≡ false = one_power net h left false true has has_too in cc
+  determined _ h r s (jumped over left effects _ _ has runs) (jumped _ _ _ _ _ has_too runs_too) = determined (drop over effects) h r s runs runs_too
+  determined _ h r s (not_jumped over left effects _ _ has runs) (not_jumped _ _ _ _ _ has_too runs_too) = determined effects h r s runs runs_too
+  determined _ h r s (jumped over left effects _ _ has runs) (not_jumped _ _ _ _ _ has_too runs_too) =
+      let same : false ≡ true = one_power net h left true false has has_too in cc
+  determined _ h r s (not_jumped over left effects _ _ has runs) (jumped _ _ _ _ _ has_too runs_too) =
+      let same : true ≡ false = one_power net h left false true has has_too in cc
+  determined _ h r s (label effects _ _ runs) (label _ _ _ runs_too) = determined effects h r s runs runs_too

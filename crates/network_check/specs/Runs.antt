@@ -1,6 +1,6 @@
 -- What the elements of a network do (IEC 61131-3:2013, LD), one after the other: each acts by the power that it has in the state
--- that those before it left.
-use Rattle.std.specs.Prelude.{◌≡◌, ◌↔◌, ℕ, Bool, true, false, not, if◌then◌else◌, List, [], ◌∷◌}
+-- that those before it left. A jump that has power passes over some of those behind it.
+use Rattle.std.specs.Prelude.{◌≡◌, ◌↔◌, ℕ, Bool, true, false, not, if◌then◌else◌, List, [], ◌∷◌, drop}
 use Rattle.diagram_declarations.specs.declared.decls.Instance.{Instance}
 use Rattle.scan_cycle.specs.Rung.{Held, frame_of}
 use Rattle.st_statements.specs.Run.{Ran, ran, assigned, called, seen, triggered}
@@ -8,7 +8,7 @@ use Rattle.network_power.specs.declared.network.Links.{Links}
 use Rattle.network_power.specs.declared.network.Network.{Network}
 use Rattle.network_power.specs.Network.{IsFedBy, left_of}
 use Rattle.network_check.specs.declared.effect.Effect.{Effect}
-use Rattle.network_check.specs.declared.effect.Effect.TheVariants.{Coil, Trigger, Call, Return}
+use Rattle.network_check.specs.declared.effect.Effect.TheVariants.{Coil, Trigger, Call, Return, Jump, Label}
 use Rattle.network_check.specs.declared.effect.CoilKind.{CoilKind}
 use Rattle.network_check.specs.declared.effect.CoilKind.TheVariants.{Plain, Negated, Set, Reset}
 
@@ -40,3 +40,8 @@ pub data Runs (net : Network) (instances : List Instance) (now : ℕ) : List Eff
   returned : (left : Links) (effects : List Effect) (h : Held) → Has net h left true → Runs net instances now (Return left ∷ effects) h (ran true h)
   passed : (left : Links) (effects : List Effect) (h : Held) (r : Ran) → Has net h left false → Runs net instances now effects h r
       → Runs net instances now (Return left ∷ effects) h r
+  jumped : (over : ℕ) (left : Links) (effects : List Effect) (h : Held) (r : Ran) → Has net h left true
+      → Runs net instances now (drop over effects) h r → Runs net instances now (Jump over left ∷ effects) h r
+  not_jumped : (over : ℕ) (left : Links) (effects : List Effect) (h : Held) (r : Ran) → Has net h left false → Runs net instances now effects h r
+      → Runs net instances now (Jump over left ∷ effects) h r
+  label : (effects : List Effect) (h : Held) (r : Ran) → Runs net instances now effects h r → Runs net instances now (Label ∷ effects) h r

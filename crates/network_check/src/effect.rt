@@ -38,4 +38,11 @@ pub enum Effect {
     Return {
         left: Links,
     },
+    /// A jump: where it has power, so many elements behind it do nothing.
+    Jump {
+        over: usize,
+        left: Links,
+    },
+    /// A label, which jumps lead to.
+    Label,
 }

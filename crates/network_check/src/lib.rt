@@ -1,6 +1,7 @@
 //! Whether statements of Structured Text do what the elements of a network do, one after the other.
 #![tactic(auto)]
 
+mod arms;
 mod doing;
 mod effect;
 pub mod laws;
@@ -10,6 +11,3 @@ mod selections;
 
 pub use effect::{CoilKind, Effect};
 pub use running::is_run;
-
-#[cfg(test)]
-mod tests;

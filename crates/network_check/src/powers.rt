@@ -7,11 +7,13 @@ use network_power::{Links, Network, is_fed};
 use st_expression::Expression;
 
 /// Whether an expression is NOT of one that has the power.
+
 fn is_inverse(net: Network<'_>, left: Links, expression: &Expression) -> bool
     ensures { IsTrue result → Shows net.entry left true expression.now }
 {
     match expression {
         Expression::Not(a) => is_fed(net, left, a),
+        Expression::Constant(on) => is_fed(net, left, &Expression::Constant(!*on)),
         _ => false,
     }
 }

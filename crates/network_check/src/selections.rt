@@ -4,7 +4,7 @@ ghost use Rattle.std.specs.Prelude.{◌≡◌, IfSome, IsTrue, Bool};
 ghost use Rattle.st_expression.specs.declared.expression.Operand.{Operand};
 ghost use Rattle.st_expression.specs.Value.{value};
 ghost use Rattle.st_statements.specs.declared.statement.StatementList.TheVariants.{End};
-ghost use Rattle.network_check.specs.Doing.{IsReturn, IsSelection, Latches};
+ghost use Rattle.network_check.specs.Doing.{IsChoice, IsReturn, IsSelection, Latches};
 
 use st_expression::Expression;
 use st_statements::StatementList;
@@ -14,6 +14,36 @@ pub(crate) fn is_end(list: &StatementList) -> bool
     ensures { IsTrue result → list.now ≡ End }
 {
     matches!(list, StatementList::End)
+}
+
+/// An IF, and the statements behind it.
+#[derive(Clone, Copy)]
+pub(crate) struct Choice<'a> {
+    pub condition: &'a Expression,
+    pub accepted: &'a StatementList,
+    /// Those of its ELSE; none where it has none.
+    pub otherwise: &'a StatementList,
+    pub next: &'a StatementList,
+}
+
+/// The IF that a list begins with.
+pub(crate) fn choice_of(list: &StatementList) -> Option<Choice<'_>>
+    ensures { IfSome result (λ x. IsChoice x.condition.now x.accepted.now x.otherwise.now x.next.now list.now) }
+{
+    match list {
+        StatementList::Select {
+            condition,
+            accepted,
+            otherwise,
+            next,
+        } => Some(Choice {
+            condition,
+            accepted,
+            otherwise,
+            next,
+        }),
+        _ => None,
+    }
 }
 
 /// The IF without ELSE that a list begins with: its condition, its statements and those behind it.

@@ -1,7 +1,8 @@
 -- What the parts of a body of ladder diagram do by their power.
-use Rattle.std.specs.Prelude.{◌≡◌, ℕ, Bool, true, false, not, ◌&&◌, ◌||◌, List, [], ◌∷◌, codes, Option, Some, None, if◌then◌else◌, slice_get}
+use Rattle.std.specs.Prelude.{◌≡◌, ℕ, ◌+◌, Bool, true, false, not, ◌&&◌, ◌||◌, List, [], ◌∷◌, codes, Option, Some, None, if◌then◌else◌, slice_get}
 use Rattle.std.specs.Option.{option_map_or}
 use Rattle.std.specs.List.{list_all, list_any}
+use Rattle.std.specs.Str.{bytes_eq}
 use Rattle.diagram_declarations.specs.declared.kind.BlockKind.{BlockKind}
 use Rattle.diagram_declarations.specs.declared.kind.BlockKind.TheVariants as kind
 use Rattle.diagram_declarations.specs.declared.kind.Parameter.{Parameter}
@@ -10,10 +11,10 @@ use Rattle.diagram_declarations.specs.Name.{same_letters}
 use Rattle.st_program.specs.declared.program.StInstance.{StInstance}
 use Rattle.st_program.specs.Declarations.{IsPreset}
 use Rattle.xml_document.specs.Items.{Item}
-use Rattle.xml_parts.specs.Parts.{part_in, all_in}
+use Rattle.xml_parts.specs.Parts.{attribute_in, part_in, all_in}
 use Rattle.network_power.specs.declared.network.Links.{Links}
 use Rattle.network_check.specs.declared.effect.Effect.{Effect}
-use Rattle.network_check.specs.declared.effect.Effect.TheVariants.{Coil, Call, Return}
+use Rattle.network_check.specs.declared.effect.Effect.TheVariants.{Coil, Call, Return, Jump, Label}
 use Rattle.network_check.specs.declared.effect.CoilKind.{CoilKind}
 use Rattle.network_check.specs.declared.effect.CoilKind.TheVariants.{Plain}
 use Rattle.plc_elements.specs.declared.inputs.Role.{Role}
@@ -140,3 +141,29 @@ pub data IsDone (b : Body) (name : List ℕ) (items : List Item) : Effect → Ty
   call : (number : ℕ) (first second : Links) → name ≡ codes "block" → IsCall b items number first second
       → IsDone b name items (Call number first second)
   returned : (left : Links) → name ≡ codes "return" → AreConnected b left (connections_in items) → IsDone b name items (Return left)
+  jump : (over : ℕ) (left : Links) → name ≡ codes "jump" → AreConnected b left (connections_in items) → IsDone b name items (Jump over left)
+  label : name ≡ codes "label" → IsDone b name items Label
+
+-- ---- where jumps lead
+
+-- a label with this word
+abbrev pub is_label : (word : List ℕ) → List ℕ × List Item → Bool
+is_label word part = bytes_eq part.0 (codes "label") && option_map_or (bytes_eq word) (attribute_in (codes "label") part.1) false
+
+-- the places of the labels with this word among the parts, counted from a number on
+abbrev pub labels_from : ℕ → (word : List ℕ) → List (List ℕ × List Item) → List ℕ
+labels_from n word [] = []
+labels_from n word (part ∷ parts) = if is_label word part then n ∷ labels_from (n + 1) word parts else labels_from (n + 1) word parts
+
+-- The part that acts behind those over which the jump leads is the only label with the word that the jump has.
+pub record LeadsTo (b : Body) (jump : List Item) (over : ℕ) (behind : List ℕ) : Type 0 where
+  pub word : List ℕ
+  pub target : ℕ
+  pub has : attribute_in (codes "label") jump ≡ Some word
+  pub only : labels_from 0 word (parts_of b) ≡ target ∷ []
+  pub at : slice_get behind over ≡ Some target
+
+-- A jump leads over some of those that act behind it to its label; whatever else a part does, the next acts after it.
+abbrev pub Lands : Body → List Item → Effect → (behind : List ℕ) → Type 0
+Lands b items (Jump over left) behind = LeadsTo b items over behind
+Lands b items effect behind = Unit {0}

@@ -1,4 +1,4 @@
--- The order in which the parts of a body act: by their execution numbers, if all have one, or else from top to bottom and from left to right,
+-- The order in which the parts of a body act: by their execution numbers, if all have one, labels or not, or else from top to bottom and from left to right,
 -- and as they stand in the document where that decides nothing.
 use Rattle.std.specs.Prelude.{◌≡◌, ℕ, ◌+◌, Bool, true, false, not, ◌&&◌, ◌||◌, ◌==◌, if◌then◌else◌, List, [], ◌∷◌, codes, ◌^◌, nat_lt, length}
 use Rattle.std.specs.Option.{option_map_or}
@@ -18,10 +18,14 @@ acting = codes "coil" ∷ codes "outVariable" ∷ codes "block" ∷ codes "jump"
 abbrev pub acts : List ℕ × List Item → Bool
 acts part = list_any (bytes_eq part.0) acting
 
--- the places of those that act among the parts, counted from a number on
+-- It acts, or is a label, which is a place in the order of those that act.
+abbrev pub is_ordered : List ℕ × List Item → Bool
+is_ordered part = bytes_eq part.0 (codes "label") || acts part
+
+-- the places of those in the order among the parts, counted from a number on
 abbrev pub acting_from : ℕ → List (List ℕ × List Item) → List ℕ
 acting_from n [] = []
-acting_from n (part ∷ parts) = if acts part then n ∷ acting_from (n + 1) parts else acting_from (n + 1) parts
+acting_from n (part ∷ parts) = if is_ordered part then n ∷ acting_from (n + 1) parts else acting_from (n + 1) parts
 
 -- ---- numbers and places
 

@@ -7,26 +7,28 @@ ghost use Rattle.plc_elements.specs.Order.{are_numbered};
 
 use crate::effects::is_done;
 use crate::elements::are_parts;
+use crate::jumps::lands;
 use crate::names::Body;
 use crate::order::{Key, are_listed, are_numbered, comes_before, key_of};
 use crate::parts::part_at;
 use network_check::Effect;
 use std::alloc::{AllocError, Global};
 
-/// The key of the part with a number, if it does this; `numbered` says whether keys go by execution numbers.
+/// The key of the part with a number, if it does this, before those with the numbers `behind`; `numbered` says whether keys go by execution numbers.
 fn key_acting(
     alloc: Global,
     body: Body<'_>,
     numbered: bool,
     number: usize,
     effect: Effect,
+    behind: &[usize],
 ) -> Result<Option<Key>, AllocError>
-    ensures { IfOk result (λ key. IfSome key (λ k. numbered ≡ are_numbered (parts_of body.entry) → Acts body.entry number effect k)) }
+    ensures { IfOk result (λ key. IfSome key (λ k. numbered ≡ are_numbered (parts_of body.entry) → Acts body.entry number effect behind.now k)) }
 {
     let Some(part) = part_at(body, number) else {
         return Ok(None);
     };
-    if !is_done(alloc, body, part, effect)? {
+    if !is_done(alloc, body, part, effect)? || !lands(body, part.inside, effect, behind) {
         return Ok(None);
     }
     key_of(alloc, body.document, numbered, part, number)
@@ -56,7 +58,7 @@ fn are_done(
     match (order, effects) {
         ([], []) => Ok(true),
         ([number, order @ ..], [effect, effects @ ..]) => {
-            let Some(key) = key_acting(alloc, body, numbered, *number, *effect)? else {
+            let Some(key) = key_acting(alloc, body, numbered, *number, *effect, order)? else {
                 return Ok(false);
             };
             if !is_behind(before, key) {

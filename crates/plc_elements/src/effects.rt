@@ -165,6 +165,31 @@ fn does_return(alloc: Global, body: Body<'_>, part: Part, left: Links) -> Result
     Ok(is_left(alloc, body, left, part.inside)?)
 }
 
+/// Whether a part is a jump with these connections, over so many of those behind it.
+#[tactic(auto, using(crate::specs::Effects::jump))]
+fn does_jump(
+    alloc: Global,
+    body: Body<'_>,
+    part: Part,
+    over: usize,
+    left: Links,
+) -> Result<bool, AllocError>
+    ensures { IfOk result (λ does. IsTrue does → IsDone body.entry (part_of body.entry.document.now part).0 (part_of body.entry.document.now part).1 (effect.Jump over left)) }
+{
+    if !is_named(body.document, part, b"jump") {
+        return Ok(false);
+    }
+    Ok(is_left(alloc, body, left, part.inside)?)
+}
+
+/// Whether a part is a label.
+#[tactic(auto, using(crate::specs::Effects::label))]
+fn is_label_part(body: Body<'_>, part: Part) -> bool
+    ensures { IsTrue result → IsDone body.entry (part_of body.entry.document.now part).0 (part_of body.entry.document.now part).1 effect.Label }
+{
+    is_named(body.document, part, b"label")
+}
+
 /// Whether a part does this.
 pub(crate) fn is_done(
     alloc: Global,
@@ -200,6 +225,8 @@ pub(crate) fn is_done(
             does_call(alloc, body, part, call)
         }
         Effect::Return { left } => does_return(alloc, body, part, left),
+        Effect::Jump { over, left } => does_jump(alloc, body, part, over, left),
+        Effect::Label => Ok(is_label_part(body, part)),
         Effect::Trigger { .. } => Ok(false),
     }
 }

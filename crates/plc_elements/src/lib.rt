@@ -6,6 +6,7 @@ mod connections;
 mod effects;
 mod elements;
 mod inputs;
+mod jumps;
 mod names;
 mod order;
 mod parts;

@@ -4,7 +4,7 @@ ghost use Rattle.std.specs.Prelude.{◌≡◌, IfOk, IfSome, IsTrue, map, nat_eq
 ghost use Rattle.std.specs.List.{list_all, list_any};
 ghost use Rattle.std.specs.Str.{bytes_eq};
 ghost use Rattle.xml_parts.specs.Parts.{items_from, part_of};
-ghost use Rattle.plc_elements.specs.Order.{IsKey, acting, acting_from, acts, are_numbered, comes_before, is_numeral, number_word, place_word};
+ghost use Rattle.plc_elements.specs.Order.{IsKey, acting, acting_from, acts, are_numbered, comes_before, is_numeral, is_ordered, number_word, place_word};
 
 use crate::words::attribute_or;
 use diagram_declarations::{digits_len, number};
@@ -44,14 +44,21 @@ fn is_acting(document: &Document, part: Part) -> bool
     acts(bytes_at(&document.bytes, part.name))
 }
 
-/// Whether all parts that act, counted from a number on, are in a list.
+/// Whether a part is in the order of those that act: it acts, or is a label.
+fn is_ordered(document: &Document, part: Part) -> bool
+    ensures { result ≡ is_ordered (part_of document.now part) }
+{
+    bytes_at(&document.bytes, part.name) == b"label".as_slice() || is_acting(document, part)
+}
+
+/// Whether all parts in the order of those that act, counted from a number on, are in a list.
 pub(crate) fn are_listed(document: &Document, parts: &[Part], from: usize, order: &[usize]) -> bool
     ensures { IsTrue result → list_all (λ number. list_any (nat_eq number) order.now) (acting_from from (map (part_of document.now) parts.now)) ≡ true }
 {
     let [part, rest @ ..] = parts else {
         return true;
     };
-    if is_acting(document, *part) && !order.contains(&from) {
+    if is_ordered(document, *part) && !order.contains(&from) {
         return false;
     }
     match from.checked_add(1) {

@@ -1,2 +1,1 @@
-pub mod Projects
 pub mod Imported

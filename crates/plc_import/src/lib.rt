@@ -3,7 +3,6 @@
 
 mod fault;
 mod import;
-mod unit;
 
 pub use fault::PlcImportFault;
 pub use import::import_plc;

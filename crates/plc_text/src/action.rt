@@ -5,8 +5,8 @@ use crate::diagram::{Diagram, UNCONNECTED, refused};
 use crate::fault::{PlcFault, PlcReason};
 use crate::node::{Node, Role, is_negated};
 use crate::symbols::Instance;
-use crate::table::Table;
 use crate::xml::{child, is_named, is_none, is_on, is_word, number_of, parts_in};
+use io_table::Table;
 use network_check::{CoilKind, Effect};
 use network_power::{Element, Links};
 use xml_document::{Document, Span};
@@ -281,7 +281,11 @@ fn deed_of(diagram: &mut Diagram<'_>, node: Node, id: usize) -> Result<Option<De
             left: diagram.add_left(node.inside, node.number)?,
         },
         Role::Block => return Ok(Some(call_of(diagram, node)?)),
-        Role::Jump => return Err(refused(node.number, PlcReason::Jump)),
+        Role::Jump => Effect::Jump {
+            over: 0,
+            left: diagram.add_left(node.inside, node.number)?,
+        },
+        Role::Label => Effect::Label,
         _ => return Ok(None),
     };
     Ok(Some(Deed {

@@ -15,7 +15,8 @@ pub enum PlcFault {
     /// No `pou` is a program, or none has the name that was asked for.
     #[error("no such program is in the project")]
     NoProgram,
-    #[error("several programs are in the project")]
+    /// Several are programs, or have that name.
+    #[error("several such programs are in the project")]
     SeveralPrograms,
     /// The body isn't one `LD`.
     #[error("the program isn't a ladder diagram")]
@@ -78,7 +79,7 @@ pub enum PlcReason {
     Preset,
     #[error("a block with no preset")]
     NoPreset,
-    #[error("a jump")]
+    #[error("a jump that leads up, to no label or to several, or into or out of what another one passes over")]
     Jump,
     #[error("a connection with a number that no element has")]
     Connection,

@@ -10,13 +10,13 @@ mod blocks;
 mod diagram;
 mod expression;
 mod fault;
+mod jumps;
 mod node;
 mod order;
 mod pous;
 mod program;
 mod statements;
 mod symbols;
-mod table;
 mod text;
 mod xml;
 

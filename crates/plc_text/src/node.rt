@@ -16,6 +16,7 @@ pub(crate) enum Role {
     Write,
     Return,
     Jump,
+    Label,
     /// It has no power, and does nothing.
     Still,
 }
@@ -78,7 +79,7 @@ const ROLES: [RoleName; 13] = [
     },
     RoleName {
         name: b"label",
-        role: Role::Still,
+        role: Role::Label,
     },
     RoleName {
         name: b"comment",

@@ -2,7 +2,6 @@
 
 use crate::fault::PlcFault;
 use crate::xml::{child, is_named, is_word, name_of, parts_in};
-use diagram_declarations::same_letters;
 use std::alloc::Global;
 use xml_document::Document;
 use xml_parts::{Part, attribute};
@@ -14,37 +13,24 @@ fn pous_of(document: &Document) -> Option<usize> {
     child(document, types, b"pous")
 }
 
-/// Whether an element is the `pou` with a name.
-fn is_pou(document: &Document, part: Part, name: &[u8]) -> bool {
-    match attribute(document, part.inside, b"name") {
-        Some(found) => is_named(document, part, b"pou") && same_letters(found, name),
+/// Whether an element is a `pou` of which an attribute has a value.
+fn is_pou(document: &Document, part: Part, name: &[u8], value: &[u8]) -> bool {
+    match attribute(document, part.inside, name) {
+        Some(found) => is_named(document, part, b"pou") && is_word(found, value),
         None => false,
     }
 }
 
-/// Whether an element is a `pou` that is a program.
-fn is_program(document: &Document, part: Part) -> bool {
-    match attribute(document, part.inside, b"pouType") {
-        Some(found) => is_named(document, part, b"pou") && is_word(found, b"program"),
-        None => false,
-    }
-}
-
-/// The place inside the first `pou` with a name.
-fn named(document: &Document, pous: &[Part], name: &[u8]) -> Result<usize, PlcFault> {
-    for part in pous {
-        if is_pou(document, *part, name) {
-            return Ok(part.inside);
-        }
-    }
-    Err(PlcFault::NoProgram)
-}
-
-/// The place inside the only program.
-fn only_program(document: &Document, pous: &[Part]) -> Result<usize, PlcFault> {
+/// The place inside the only `pou` of which an attribute has a value.
+fn only_pou(
+    document: &Document,
+    pous: &[Part],
+    name: &[u8],
+    value: &[u8],
+) -> Result<usize, PlcFault> {
     let mut found: Option<usize> = None;
     for part in pous {
-        if is_program(document, *part) {
+        if is_pou(document, *part, name, value) {
             if found.is_some() {
                 return Err(PlcFault::SeveralPrograms);
             }
@@ -68,8 +54,8 @@ pub(crate) fn pou_of(
     };
     let pous = parts_in(alloc, document, place)?;
     match name {
-        Some(name) => named(document, &pous, name),
-        None => only_program(document, &pous),
+        Some(name) => only_pou(document, &pous, b"name", name),
+        None => only_pou(document, &pous, b"pouType", b"program"),
     }
 }
 

@@ -4,11 +4,12 @@ use crate::action::{Action, add_actions};
 use crate::blocks::is_name;
 use crate::diagram::Diagram;
 use crate::fault::{PlcFault, PlcReason};
+use crate::jumps::Opens;
 use crate::order::{Calls, add_ordered};
 use crate::pous::{ladder_of, pou_of};
-use crate::table::Table;
 use crate::text::Text;
 use crate::xml::{child, parts_in, value_of};
+use io_table::Table;
 use network_check::Effect;
 use network_power::Element;
 use std::alloc::Global;
@@ -50,7 +51,10 @@ struct Course<'d> {
     diagram: Diagram<'d>,
     actions: Table<Action>,
     ordered: Table<Action>,
+    /// The same, with what each jump leads over.
+    landed: Table<Action>,
     calls: Calls,
+    opens: Opens,
     text: Text,
     order: Table<usize>,
     effects: Table<Effect>,
@@ -80,7 +84,9 @@ impl<'d> Course<'d> {
             diagram: Diagram::new(alloc, document),
             actions: Table::new(alloc),
             ordered: Table::new(alloc),
+            landed: Table::new(alloc),
             calls: Calls::new(alloc),
+            opens: Opens::new(alloc),
             text: Text::new(alloc),
             order: Table::new(alloc),
             effects: Table::new(alloc),
@@ -92,7 +98,9 @@ impl<'d> Course<'d> {
         self.diagram.is_whole()
             && self.actions.is_whole
             && self.ordered.is_whole
+            && self.landed.is_whole
             && self.calls.is_whole()
+            && self.opens.is_whole()
             && self.text.bytes.is_whole
             && self.order.is_whole
             && self.effects.is_whole
@@ -100,7 +108,7 @@ impl<'d> Course<'d> {
 
     /// Lists what acts, and what it does.
     fn list(&mut self) {
-        for action in self.ordered.items() {
+        for action in self.landed.items() {
             self.order.push(action.turn.place);
             self.effects.push(action.deed.effect);
         }
@@ -118,7 +126,10 @@ impl<'d> Course<'d> {
         add_ordered(self.actions.items(), &mut self.ordered);
         self.calls.check(&self.diagram, self.ordered.items())?;
         self.diagram
-            .write(&mut self.text, site.name, self.ordered.items())?;
+            .add_landed(self.ordered.items(), &mut self.landed)?;
+        let landed = self.landed.items();
+        self.diagram
+            .write(&mut self.text, &mut self.opens, site.name, landed)?;
         self.list();
         Ok(())
     }

@@ -2,8 +2,9 @@
 
 use crate::action::{Action, Deed};
 use crate::blocks::inputs_of;
-use crate::diagram::Diagram;
-use crate::fault::PlcFault;
+use crate::diagram::{Diagram, refused};
+use crate::fault::{PlcFault, PlcReason};
+use crate::jumps::Opens;
 use crate::symbols::{List, Sort, Variable};
 use crate::text::Text;
 use network_check::{CoilKind, Effect};
@@ -186,8 +187,27 @@ impl<'d> Diagram<'d> {
                 second,
             } => self.write_call(out, instance, first, second, deed.preset),
             Effect::Return { left } => self.write_return(out, left),
-            // No element is one.
-            Effect::Trigger { .. } => Ok(()),
+            // No element is a trigger; a jump and a label are what is around others.
+            Effect::Trigger { .. } | Effect::Jump { .. } | Effect::Label => Ok(()),
+        }
+    }
+
+    /// Writes what the element does that acts at a place in the order.
+    fn write_action(
+        &self,
+        out: &mut Text,
+        opens: &mut Opens,
+        place: usize,
+        action: Action,
+    ) -> Result<(), PlcFault> {
+        opens.end(out, place);
+        let Effect::Jump { over, left } = action.deed.effect else {
+            return self.write_deed(out, action.deed);
+        };
+        if opens.write_jump(self, out, place, over, left)? {
+            Ok(())
+        } else {
+            Err(refused(self.number(action.turn.place), PlcReason::Jump))
         }
     }
 
@@ -195,13 +215,15 @@ impl<'d> Diagram<'d> {
     pub(crate) fn write(
         &self,
         out: &mut Text,
+        opens: &mut Opens,
         name: Span,
         ordered: &[Action],
     ) -> Result<(), PlcFault> {
         self.write_head(out, name);
-        for action in ordered {
-            self.write_deed(out, action.deed)?;
+        for (place, action) in ordered.iter().enumerate() {
+            self.write_action(out, opens, place, *action)?;
         }
+        opens.end(out, ordered.len());
         out.add(b"END_PROGRAM\n");
         Ok(())
     }

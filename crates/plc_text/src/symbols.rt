@@ -2,9 +2,9 @@
 
 use crate::blocks::{block_of, is_address, is_name, output_of};
 use crate::fault::{PlcFault, PlcReason};
-use crate::table::Table;
 use crate::xml::{child, first_in, is_named, is_on, is_word, name_of, parts_in, value_of};
 use diagram_declarations::{BlockKind, same_letters};
+use io_table::Table;
 use st_expression::Operand;
 use std::alloc::Global;
 use xml_document::{Document, Span};

@@ -1,6 +1,6 @@
 //! A text as it is written.
 
-use crate::table::Table;
+use io_table::Table;
 use std::alloc::Global;
 
 /// A text has no more bytes than this.

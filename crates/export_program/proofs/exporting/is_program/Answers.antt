@@ -6,7 +6,7 @@ use Rattle.st_program.specs.declared.program.StInstance.{StInstance}
 use Rattle.st_program.specs.declared.symbols.StVariable.{StVariable}
 use Rattle.export_check.specs.Meaning.{IsExportOf}
 use Rattle.export_program.specs.Declarations.{AreExported}
-use Rattle.export_program.specs.Exported.{IsExported}
+use Rattle.export_program.specs.Exported.{IsExportedBy}
 use Rattle.export_program.proofs.Begins.{begins_alike}
 use Rattle.export_program.proofs.exporting.is_program.Goals as goal
 
@@ -22,9 +22,8 @@ returns c =
     (c.are_enough.ensures c.if-not-are_enough.false) in
     IfOk-weaker c.is_export.result
     (λ is. IsTrue is → IsExportOf c.args.program.now (length c.as_slice-variables.result.now) c.args.read.now.statements)
-    (λ is. IsTrue is → IsExported c.args.form c.args.program.now c.args.text.now)
+    (λ is. IsTrue is → IsExportedBy c.args.form c.args.program.now c.args.text.now c.args.read.now)
     (λ is does t. record {
-      program = c.args.read.now;
       read = c.requires;
       declared = declared;
       begins = begins_alike c.args.form c.args.text.now c.args.program.now c.args.read.now declared enough;

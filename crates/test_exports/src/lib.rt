@@ -1,4 +1,0 @@
-//! Tests of exports: programs written as Structured Text, which are found to be the programs.
-#![tactic(auto)]
-
-mod texts;
