@@ -119,7 +119,7 @@ complete -c ladder -n '__ladder_at diff more 0' -l grouped -d 'The combinations 
 complete -c ladder -n '__ladder_at diff more 0' -l terms -d 'Groups as terms'
 complete -c ladder -n '__ladder_at diff more 0' -l st -d 'Groups as two statements in Structured Text'
 complete -c ladder -n '__ladder_at diff more 0' -l all-inputs -d 'All inputs that both have'
-complete -c ladder -n '__ladder_at import more 0' -l open -d 'Compares and steps have any value'
+complete -c ladder -n '__ladder_at import more 0' -l open -d 'Compares, steps and unknown blocks have any value'
 complete -c ladder -n '__ladder_at import more 0' -l control -x -a on -d 'The control input of timers that have none'
 complete -c ladder -n '__ladder_at import more 0' -l hal -r -F -d 'A HAL file with names'
 complete -c ladder -n '__ladder_at import more 0' -l pou -x -d 'The program with this name in PLCopen XML'

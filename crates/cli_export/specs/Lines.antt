@@ -20,7 +20,7 @@ abbrev pub sentence : ExportFault → List ℕ
 sentence fault.Memory = codes "X7: out of memory\n"
 sentence fault.ProgramName = codes "E1: the program's name is no name of Structured Text, or something is declared by it; --name gives another\n"
 sentence (fault.TwoNumbers variable) = codes "E2: the address has two numbers already, so --bits can't write it by byte and bit\n"
-sentence fault.TooLarge = codes "E3: the text would have more than 600 statements or 1000 names\n"
+sentence fault.TooLarge = codes "E3: the text would have more than 600 statements or 1000 names, or the project more than 4000 elements\n"
 sentence fault.NotFaithful = codes "E4: the text isn't found to do what the drawing does, so it isn't written\n"
 
 -- a sentence where it is asked for

@@ -47,7 +47,7 @@ fn sentence(fault: ExportFault) -> &'static [u8]
             b"E2: the address has two numbers already, so --bits can't write it by byte and bit\n"
         }
         ExportFault::TooLarge => {
-            b"E3: the text would have more than 600 statements or 1000 names\n"
+            b"E3: the text would have more than 600 statements or 1000 names, or the project more than 4000 elements\n"
         }
         ExportFault::NotFaithful => {
             b"E4: the text isn't found to do what the drawing does, so it isn't written\n"

@@ -43,7 +43,7 @@ Motor := (Start OR Motor) AND NOT Stop;
 pub(crate) const E3: &str = "\
 E3: a text that would be too large
 
-The text would have more than 600 statements or more than 1,000 names. A coil, a call and an edge are a statement or two each. A diagram is that of such statements, so with `--xml` the same holds.
+The text would have more than 600 statements or more than 1,000 names. A coil, a call and an edge are a statement or two each. A diagram is that of such statements, so with `--xml` the same holds; and a project has at most 4,000 elements and 40,000 connections.
 ";
 
 pub(crate) const E4: &str = "\

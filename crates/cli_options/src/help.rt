@@ -241,7 +241,8 @@ and else writes them as comments";
 pub(crate) const PROJECT_HELP: &str = "The project, of ClassicLadder (.clp) or in PLCopen
 XML (.xml); at most 1048576 bytes";
 
-pub(crate) const OPEN_HELP: &str = "Compares and steps of charts may have any value";
+pub(crate) const OPEN_HELP: &str = "Compares, steps of charts and blocks that aren't
+known may have any value";
 
 pub(crate) const CONTROL_HELP: &str = "`on`: a timer without a control input has it ON";
 

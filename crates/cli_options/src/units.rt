@@ -102,12 +102,12 @@ VAR
 pub(crate) const N5: &str = "\
 N5: what a program can't have
 
-The line names a variable, or the element with this `localId`, and ends with a word for the reason; `--why` adds a sentence. The first such thing is told. `docs/user/import.md` says what can be imported.
+The line names a variable, or the element with this `localId`, and ends with a word for the reason; `--why` adds a sentence. The first such thing is told. `docs/user/import.md` says what can be imported. With `--open` a block that isn't known is no fault.
 
 ```console
-$ sed 's/<coil /<coil edge=\"rising\" /' lamp.xml | ladder import --why -
-fault N5 element 3 edge
-N5: edges aren't carried over; R_TRIG and F_TRIG in Structured Text are
+$ sed 's/<coil /<coil negated=\"true\" storage=\"set\" /' lamp.xml | ladder import --why -
+fault N5 element 3 modifier
+N5: the element can't be negated or stored so
 ```
 
 Corrected:
