@@ -1,7 +1,4 @@
-//! Tests of requests, over readers and writers in memory.
+//! The names of the public crates, and callers of them: what a caller is promised is there, and can be called.
 #![tactic(auto)]
 
-mod faults;
-mod files;
 pub mod surface;
-mod written;
