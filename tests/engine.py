@@ -1,10 +1,12 @@
 #!/usr/bin/env python3
-"""Compares `ladder` with the engine of ClassicLadder, scan by scan: engine.py PROGRAM [SCANS] [--seed=N] [--kept=FOLDER].
+"""Compares `ladder` with the engine of ClassicLadder, scan by scan: engine.py PROGRAM [SCANS] [--through=LANGUAGE] [--seed=N]
+[--kept=FOLDER].
 
 Sample projects of Debian's package linuxcnc-uspace run in LinuxCNC's HAL, without real time: `streamer` gives the inputs of a random stimulus
 before each scan, `sampler` takes the outputs after it, so that a busy machine makes no difference. `ladder import` writes the program
 of the project, and `ladder sim --every` gets the records in which an input changes. Each output of each scan must be the same. In these
-projects each preset is a multiple of the period, and no block is one in which the engine differs (docs/user/import.md).
+projects each preset is a multiple of the period, and no block is one in which the engine differs (docs/user/import.md). With LANGUAGE, st or xml, the
+program is exported in it, and that text drawn or imported again: the drawing of that is compared.
 
 The engine runs in namespaces of its own, in which the unpacked package lies over the files of the system; nothing is installed, and
 what was started ends with them. FOLDER keeps the unpacked package. Where the package or such namespaces can't be had, this is passed over.
@@ -127,11 +129,21 @@ def simulated(program, folder, inputs, rows):
     return [line.split(",")[1:] for line in trace[1:]]
 
 
-def compared(program, package, project, scans, chance):
+def carried(program, folder, project, through):
+    """The program text of a project; of a language that it was exported in before, if that is given."""
+    text = ran(program, folder, "import", str(project))
+    if through:
+        (folder / "imported.ld").write_text(text, "ascii")
+        (folder / f"exported.{through}").write_text(ran(program, folder, "export", f"--{through}", "imported.ld"), "ascii")
+        text = ran(program, folder, {"st": "draw", "xml": "import"}[through], f"exported.{through}")
+    return text
+
+
+def compared(program, package, project, scans, chance, through):
     """What differs, or None, and how often an output changed."""
     with tempfile.TemporaryDirectory() as scratch:
         folder = pathlib.Path(scratch)
-        text = ran(program, folder, "import", str(project))
+        text = carried(program, folder, project, through)
         (folder / "program.ld").write_text(text, "ascii")
         inputs, outputs = numbers(text, "I"), numbers(text, "Q")
         rows = held(len(inputs), scans, chance)
@@ -146,10 +158,10 @@ def compared(program, package, project, scans, chance):
     return None, sum(one != other for pair in zip(here, here[1:]) for one, other in zip(*pair))
 
 
-def all_compared(program, package, scans, seed):
+def all_compared(program, package, scans, seed, through):
     wrong = total = 0
     for name in PROJECTS:
-        found, changed = compared(program, package, package.root / linuxcnc.SAMPLES / name, scans, random.Random(f"{seed} {name}"))
+        found, changed = compared(program, package, package.root / linuxcnc.SAMPLES / name, scans, random.Random(f"{seed} {name}"), through)
         wrong, total = wrong + bool(found), total + changed
         if found:
             print(f"{name}: {found}")
@@ -170,6 +182,7 @@ def main():
     words = argparse.ArgumentParser()
     words.add_argument("program")
     words.add_argument("scans", nargs="?", type=int, default=10000)
+    words.add_argument("--through", choices=("st", "xml"))
     words.add_argument("--seed", default="1")
     words.add_argument("--kept")
     given = words.parse_args()
@@ -178,7 +191,7 @@ def main():
         if reason:
             print(f"engine: passed over: {' '.join(reason.split())}")
             return 0
-        return all_compared(str(pathlib.Path(given.program).resolve()), package, given.scans, given.seed)
+        return all_compared(str(pathlib.Path(given.program).resolve()), package, given.scans, given.seed, given.through)
 
 
 if __name__ == "__main__":

@@ -1,8 +1,11 @@
 """Programs made at random as a ladder diagram in PLCopen XML has them, what they do, and what of them is refused.
 
 The elements act one after the other, each by the power that has a way to it from the left, which is searched for from the right. A jump that has
-power is followed to its label.
+power is followed to its label. A contact or a coil with an edge has a trigger with a memory of its own.
+
+In some programs there are blocks that aren't known: what leads to them means nothing, and what their outputs give may be anything.
 """
+from collections import Counter
 from dataclasses import dataclass, field
 
 from statements import KINDS, Run
@@ -12,11 +15,19 @@ NAMES = ("Start", "stop", "a", "b2", "_x", "Motor", "MotorContactor", "MotorCont
          "DoorClosed", "x", "y", "CoolantPump", "CoolantPumpReady", "Tank", "Valve_A", "EmergencyStopOfTheConveyorBelt", "Auto", "Hand", "Reset", "z80", "i0")
 DURATIONS = {0: "T#0s", 1: "T#1ms", 5: "T#5ms", 700: "T#700ms", 1000: "T#1s", 2000: "t#2s", 5000: "T#5s", 60_000: "T#1m"}
 OTHERS = ("INT", "REAL", "TIME", "string", "derived")
+TRIGGERS = ("R_TRIG", "F_TRIG")
+PINS = KINDS | dict.fromkeys(TRIGGERS, ("CLK", None, None))
+EDGES = ("rising", "falling")
+FUNCTIONS = ("GT", "ADD", "MOVE")
+RAMPS = ("Ramp", "RampOfTheConveyor")
+NUMBERS = ("5", "100", "T#2s", "speed")
+NOT_DECLARED = ("Nowhere", "Drive.Ready", "MW5", "")
+CLASHING = ("Ramp_DONE", "ramp_done_1", "GT5", "ADD7_ENO", "MOVE9")
 
 
 @dataclass
 class Variable:
-    """A variable or a block: its kind is BOOL, a block's or another one."""
+    """A variable or a block: its kind is BOOL, that of a block or a trigger, or another one."""
 
     name: str
     kind: str
@@ -27,7 +38,10 @@ class Variable:
 
 @dataclass(eq=False)
 class Element:
-    """An element of a diagram, by the name that it has in XML; its word is a name, the output of a block or a literal."""
+    """An element of a diagram, by the name that it has in XML; its word is a name, the output of a block or a literal.
+
+    A block that isn't known has its type as what is foreign, and connections and outputs by their names. A variable that only such blocks read or write
+    is foreign too. An `output` is no element of the document: it is that of a block, and its word is the name of the output."""
 
     sort: str
     word: str = ""
@@ -36,6 +50,11 @@ class Element:
     preset: "Element" = None
     negated: bool = False
     storage: str = "none"
+    edge: str = ""
+    foreign: str = ""
+    pins: dict = field(default_factory=dict)
+    outputs: list = field(default_factory=list)
+    block: "Element" = None
     number: int = 0
     execution: int = 0
     down: int = 0
@@ -47,21 +66,23 @@ class Program:
 
     def __init__(self, chance, small):
         self.random, self.small = chance, small
-        self.triggers, self.integers, self.elements, self.nodes = [], {}, [], []
+        self.integers, self.elements, self.nodes = {}, [], []
         self.name = chance.choice(["main", "PLC_PRG", "program0", "Motor"])
+        self.is_open = self.is_so(0.2)
         self.declare()
-        self.uncalled = chance.sample(sorted(self.blocks), len(self.blocks))
+        self.uncalled = chance.sample(sorted(self.kinds), len(self.kinds))
+        self.ramps = chance.sample(RAMPS, len(RAMPS)) if self.is_open else []
         self.rails = [self.add("leftPowerRail")]
         self.open, self.jumps = [], 0
         self.has_one_rail = chance.random() < 0.5
-        for number in range(chance.randint(1, 2 if small else chance.choice([4, 8, 8, 16]))):
+        for number in range(chance.randint(1, 2 if small else chance.choice([4, 8, 8, 13]))):
             if number and not self.has_one_rail:
                 self.rails.append(self.add("leftPowerRail"))
             self.rung()
             self.jump()
         while self.open:
             self.label(self.open.pop())
-        if self.is_so(0.02):
+        if self.is_so(0.01):
             self.ring()
 
     # what it declares
@@ -74,6 +95,7 @@ class Program:
         kinds += chance.choices(OTHERS, k=chance.choice([0, 0, 1, 2]))
         names += [f"{kind}{number}" if kind in KINDS else f"other{number}" for number, kind in enumerate(kinds[len(names):])]
         made = [Variable(name, kind, chance.choice(lists)) for name, kind in zip(names, kinds)]
+        made += [Variable(name, kind, chance.choice([listed for listed in lists if listed != "inputVars"])) for name, kind in self.more()]
         chance.shuffle(made)
         self.lists = [(listed, [variable for variable in made if variable.listed == listed]) for listed in dict.fromkeys(lists)]
         self.variables = [variable for _, some in self.lists for variable in some]
@@ -85,8 +107,20 @@ class Program:
             self.lists = [("localVars", self.variables)]
         self.inputs = [variable.name for variable in bools if is_input(variable)]
         self.outputs = [variable.name for variable in bools if not is_input(variable)] or self.spare()
-        self.initial = {variable.name: variable.initial for variable in self.variables if variable.kind == "BOOL"}
-        self.blocks = {variable.name: (variable.kind, self.preset(variable.kind)) for variable in self.variables if variable.kind in KINDS}
+        self.kinds = {variable.name: variable.kind for variable in self.variables if variable.kind in PINS}
+        self.blocks = {name: (kind, self.preset(kind)) for name, kind in self.kinds.items() if kind in KINDS}
+        self.triggers = [(name, kind) for name, kind in self.kinds.items() if kind in TRIGGERS]
+        self.initial = {variable.name + ".Q" * (variable.kind in TRIGGERS): variable.initial for variable in self.variables if variable.kind in ("BOOL", *TRIGGERS)}
+
+    def more(self):
+        """The names and the kinds of triggers, which are now and then those that the import would give, and of what only blocks that aren't known need."""
+        triggers = self.random.choices(TRIGGERS, k=self.random.choice([0, 0, 1] if self.small else [0, 0, 1, 2]))
+        names = [self.random.choice([f"{kind}{number}", f"{kind}_behindTheDoor{number}"]) for number, kind in enumerate(triggers, 1)]
+        made = list(zip(names, triggers))
+        if self.is_open:
+            made += [("speed", "INT"), *((name, "RAMP") for name in RAMPS)]
+            made += [(name, "BOOL") for name in self.random.sample(CLASHING, self.random.choice([0, 0, 1, 3]))]
+        return made
 
     def spare(self):
         """A variable that isn't an input, where all others are."""
@@ -105,7 +139,7 @@ class Program:
         return {"PT": self.random.choice(list(DURATIONS)), "PV": self.random.choice([0, 1, 2, 3, 3, 5, 32767])}.get(KINDS[kind][2], 0)
 
     def output(self, name):
-        return f"{name}.Q1" if self.blocks[name][0] in ("SR", "RS") else f"{name}.Q"
+        return f"{name}.Q1" if self.kinds[name] in ("SR", "RS") else f"{name}.Q"
 
     # its networks
 
@@ -117,13 +151,17 @@ class Program:
         return self.random.random() < probability
 
     def operand(self):
-        if self.blocks and self.is_so(0.2):
-            return self.output(self.random.choice(list(self.blocks)))
+        if self.kinds and self.is_so(0.2):
+            return self.output(self.random.choice(list(self.kinds)))
         return self.random.choice(self.inputs + self.outputs)
 
     def contact(self, left):
-        """A contact; now and then nothing leads to it."""
-        return self.add("contact", self.operand(), [] if self.is_so(0.001) else left, negated=self.is_so(0.4))
+        """A contact; now and then nothing leads to it. More of them have an edge where a jump may lead over them."""
+        edge = self.edge(0.2 if self.open else 0.08)
+        return self.add("contact", self.operand(), [] if self.is_so(0.0005) else left, negated=not edge and self.is_so(0.4), edge=edge)
+
+    def edge(self, probability):
+        return self.random.choice(EDGES) if self.is_so(probability) else ""
 
     def series(self, left, depth):
         """What the last parts of some in series give."""
@@ -135,7 +173,7 @@ class Program:
     def part(self, left, depth):
         """What a part gives, to which some elements lead."""
         forms = {"contact": 6, "parallel": 4 if depth else 0, "shunt": 0.6 if depth else 0, "bridge": 0.5 if depth else 0}
-        forms |= {"block": 1.2 if self.uncalled else 0, "variable": 0.3, "coil": 0.5, "beside": 0.3, "alike": 0.6}
+        forms |= {"block": 1.2 if self.uncalled else 0, "variable": 0.3, "coil": 0.5, "beside": 0.3, "alike": 0.6, "unknown": 1.2 * self.is_open}
         return getattr(self, self.random.choices(list(forms), list(forms.values()))[0] + "_part")(left, depth)
 
     def contact_part(self, left, depth):
@@ -168,11 +206,48 @@ class Program:
 
     def block_part(self, left, depth):
         """A block, and what its output leads to; now and then it is used a second time."""
-        name = self.uncalled[-1] if self.is_so(0.005) else self.uncalled.pop()
-        kind, preset = self.blocks[name]
-        literal = self.add("inVariable", DURATIONS[preset] if KINDS[kind][2] == "PT" else str(preset)) if KINDS[kind][2] else None
-        second = self.random.choice([[], self.series(self.start(), 0), self.random.choice(self.nodes or [[]])]) if KINDS[kind][1] else []
+        name = self.uncalled[-1] if self.is_so(0.003) else self.uncalled.pop()
+        _, other, parameter = PINS[self.kinds[name]]
+        literal = self.add("inVariable", self.literal(name, parameter)) if parameter else None
+        second = self.random.choice([[], self.series(self.start(), 0), self.random.choice(self.nodes or [[]])]) if other else []
         return [self.add("block", name, [] if self.is_so(0.02) else left, second=second, preset=literal)]
+
+    def literal(self, name, parameter):
+        """The preset of a block."""
+        preset = self.blocks[name][1]
+        return DURATIONS[preset] if parameter == "PT" else str(preset)
+
+    def unknown_part(self, left, depth):
+        """A block that isn't known, and one of its outputs."""
+        return [self.random.choice(self.unknown(left).outputs)]
+
+    def unknown(self, left):
+        """A block that isn't known, and now and then a variable for a number that it gives."""
+        ramp = self.ramps.pop() if self.ramps and self.is_so(0.4) else ""
+        first, *others = ("RUN", "TARGET") if ramp else ("EN", "IN1", "IN2")
+        pins = {first: self.led(left), **{name: [self.number()] for name in others}}
+        block = self.add("block", ramp, foreign="RAMP" if ramp else self.random.choice(FUNCTIONS), pins=pins)
+        words = ("DONE", "BUSY") if ramp else (self.random.choice(["OUT", "OUT", ""]), "ENO")
+        block.outputs = [Element("output", word, block=block) for word in words]
+        self.nodes += [[output] for output in block.outputs]
+        if not ramp and self.is_so(0.4):
+            self.add("outVariable", self.random.choice(["speed", "Nowhere"]), block.outputs[:1], foreign="INT")
+        return block
+
+    def led(self, left):
+        """What leads to a block that isn't known: now and then contacts behind some elements, on names that needn't be declared."""
+        for _ in range(self.random.choice([0, 0, 1, 2])):
+            foreign = self.add("contact", self.random.choice(NOT_DECLARED), left, edge=self.edge(0.2), foreign="BOOL") if self.is_so(0.4) else None
+            left = [foreign or self.contact(left)]
+        return left
+
+    def number(self):
+        """What a block that isn't known has a number from."""
+        blocks = [element for element in self.elements if element.sort == "block"]
+        if not blocks or self.is_so(0.7):
+            return self.add("inVariable", self.random.choice(NUMBERS), foreign="INT")
+        block = self.random.choice(blocks)
+        return self.random.choice(block.outputs or [Element("output", "ET", block=block)])
 
     def variable_part(self, left, depth):
         """A variable that has power itself, beside what leads there."""
@@ -187,8 +262,9 @@ class Program:
         return [self.coil([self.contact(left)] if self.is_so(0.99) else left), self.contact(left)]
 
     def coil(self, left):
-        kind = self.random.choice(["plain", "plain", "plain", "negated", "set", "reset"])
-        return self.add("coil", self.random.choice(self.outputs), left, negated=kind == "negated", storage=kind if kind in ("set", "reset") else "none")
+        kind = self.random.choices(["plain", "negated", "set", "reset", *EDGES], [6, 2, 2, 2, 0.7, 0.7])[0]
+        edge, storage = kind if kind in EDGES else "", kind if kind in ("set", "reset") else "none"
+        return self.add("coil", self.random.choice(self.outputs), left, negated=kind == "negated", storage=storage, edge=edge)
 
     def start(self):
         return [self.rails[0 if self.has_one_rail else -1]]
@@ -204,7 +280,7 @@ class Program:
     def jump(self):
         """Ends what is jumped over, or begins more; now and then it ends in a jump over what is done where it isn't done."""
         if self.open and self.is_so(0.5):
-            label = self.open.pop(self.random.randrange(len(self.open)) if self.is_so(0.02) else -1)
+            label = self.open.pop(self.random.randrange(len(self.open)) if self.is_so(0.01) else -1)
             if self.is_so(0.4):
                 self.add("jump", self.begun(), self.start())
             self.label(label)
@@ -214,8 +290,8 @@ class Program:
 
     def begun(self):
         """The name of a label to which a jump leads; now and then there is no such label, or there are two."""
-        self.jumps += self.is_so(0.98)
-        if self.is_so(0.99):
+        self.jumps += self.is_so(0.995)
+        if self.is_so(0.995):
             self.open.append(f"L{self.jumps}")
         return f"L{self.jumps}"
 
@@ -224,7 +300,7 @@ class Program:
 
     def ring(self):
         """Has a contact lead to one before it."""
-        contacts = [element for element in self.elements if element.sort == "contact"]
+        contacts = [element for element in self.elements if element.sort == "contact" and not element.foreign]
         first = self.random.randrange(len(contacts)) if contacts else 0
         for contact in contacts[first:first + 1]:
             contact.left.append(self.random.choice(contacts[first:first + 3]))
@@ -234,8 +310,10 @@ class Program:
         for _ in range(self.random.choice([1, 1, 1, 2, 3])):
             if self.is_so(0.02):
                 left = self.random.choice([[], self.start(), self.rails])
-            sort = self.random.choices(["coil", "outVariable", "return"], [10, 2, 0.3])[0]
-            if sort == "coil":
+            sort = self.random.choices(["coil", "outVariable", "return", "unknown"], [10, 2, 0.3, self.is_open])[0]
+            if sort == "unknown":
+                self.unknown(left)
+            elif sort == "coil":
                 left = [self.coil(left)] if self.is_so(0.3) and left else self.coil(left).left
             else:
                 self.add(sort, self.random.choice(self.outputs) if sort == "outVariable" else "", left)
@@ -251,10 +329,33 @@ def is_input(variable):
 
 def in_order(parts):
     """Those that act, and the labels, in the order in which they do: by execution numbers, if all that act have one, then from above, from the left, and
-    as they are written."""
+    as they are written. Blocks that aren't known do nothing, nor do variables of a number, but they are asked for their execution numbers."""
     ordered = [(place, part) for place, part in enumerate(parts) if part.sort in (*ACTING, "label")]
     numbered = all(part.execution for _, part in ordered if part.sort != "label")
-    return [part for _, part in sorted(ordered, key=lambda one: (one[1].execution * numbered, one[1].down, one[1].across, one[0]))]
+    ordered.sort(key=lambda one: (one[1].execution * numbered, one[1].down, one[1].across, one[0]))
+    return [part for _, part in ordered if not part.foreign]
+
+
+def reached(order):
+    """For each element from which a route leads to something that acts, the first thing to which one does."""
+    found = {}
+    for actor in order:
+        near = [*actor.left, *actor.second]
+        while near:
+            element = near.pop()
+            if element not in found:
+                found[element] = actor
+                near += element.left if element.sort in ("contact", "coil") else []
+    return found
+
+
+def watched(order):
+    """For each that acts, the contacts with an edge whose triggers are looked at before it does."""
+    found = {}
+    for element, actor in reached(order).items():
+        if element.sort == "contact" and element.edge:
+            found.setdefault(actor, []).append(element)
+    return found
 
 
 def target_of(order, jump):
@@ -269,14 +370,30 @@ class Networks(Run):
     def __init__(self, program):
         super().__init__(program)
         self.values.update(program.initial)
+        self.pulses, self.watched = Counter(), None
+
+    def scan(self, statements, inputs, moment):
+        if self.watched is None:
+            self.watched = watched(statements)
+        super().scan(statements, inputs, moment)
+
+    def look(self, element, clock):
+        """Looks at the trigger of an element with an edge, and gives its Q."""
+        found = clock == (element.edge == "rising")
+        self.pulses[element], self.clocks[element] = found and not self.clocks[element], found
+        return self.pulses[element]
 
     def lets_through(self, element):
+        if element.sort == "contact" and element.edge:
+            return self.pulses[element]
         return element.sort == "coil" or self.values[element.word] != element.negated
 
     def is_on(self, element):
         """Whether power begins at an element."""
         if element.sort == "block":
             return self.values[self.source.output(element.word)]
+        if element.sort == "output":
+            return self.values[element]
         return element.sort == "leftPowerRail" or element.sort == "inVariable" and self.values[element.word]
 
     def is_fed(self, elements):
@@ -296,18 +413,24 @@ class Networks(Run):
     def done(self, element):
         """What an element does, as statements."""
         fed = self.is_fed(element.left)
+        if element.sort == "block" and element.word in dict(self.source.triggers):
+            return [("trigger", element.word, fed)]
         if element.sort == "block":
             return [("call", element.word, fed, self.is_fed(element.second))]
         if element.sort == "return":
             return [("return",)] * fed
         if element.storage != "none":
             return [("assign", element.word, element.storage == "set")] * fed
+        if element.edge:
+            return [("assign", element.word, self.look(element, fed))]
         return [("assign", element.word, fed != element.negated)]
 
     def run(self, elements, moment):
         place = 0
         while place < len(elements):
             element = elements[place]
+            for contact in self.watched.get(element, ()):
+                self.look(contact, self.values[contact.word])
             if element.sort == "jump":
                 place = target_of(elements, element) if self.is_fed(element.left) else place
             elif element.sort != "label":
@@ -378,9 +501,21 @@ def crossing(order, place, end):
         place = further if within < target else target
 
 
-def refusals(parts):
-    """The fault lines that a diagram may have for its connections."""
+def unopened(parts):
+    """What is refused where blocks that aren't known are to be known."""
+    for part in parts:
+        if part.foreign and part.sort == "block":
+            yield part, "block"
+        elif part.foreign and part.sort != "inVariable":
+            yield from ((part, "not_declared"), (part, "type"))
+
+
+def refusals(parts, is_opened):
+    """The fault lines that a diagram may have for its connections, and for its blocks that aren't known."""
     order = in_order(parts)
-    connected = {other for part in parts if part.sort != "rightPowerRail" for other in (*part.left, *part.second)}
-    wrong = [*called_late(order), *unwritable(order), *((jump, "jump") for jump in crossing(order, 0, len(order))), *((other, "no_power") for other in connected if other.sort == "coil" and not other.left)]
+    known = [part for part in parts if part.sort != "rightPowerRail" and not part.foreign]
+    connected = {other for part in known for other in (*part.left, *part.second)}
+    wrong = [*called_late(order), *unwritable(order), *((jump, "jump") for jump in crossing(order, 0, len(order)))]
+    wrong += [(other, "no_power") for other in connected if other.sort == "coil" and not other.left]
+    wrong += [] if is_opened else unopened(parts)
     return {f"fault N5 element {element.number} {word}\n" for element, word in wrong}

@@ -1,9 +1,21 @@
 """Programs of network_programs.py as projects in PLCopen XML, as three tools write them, and spoiled now and then."""
-from network_programs import ACTING, Element, refusals
-from statements import KINDS
+from network_programs import ACTING, EDGES, PINS, Element, in_order, reached, refusals
 
 SPELLED = {("SR", "S1"): "SET1", ("SR", "R"): "RESET", ("RS", "S"): "SET", ("RS", "R1"): "RESET1"}
+# Ways in which an element is spoiled: the reason that is told, and the elements that can be.
+SPOILED = {"pin_edge": ("edge", ("block",)), "edge": ("edge", ("outVariable",)), "position": ("value", ACTING), "edge_word": ("value", ("contact", "coil")),
+           "modifier": ("modifier", ("outVariable", "inVariable", "return")), "edge_modifier": ("modifier", ("contact", "coil")),
+           "not_declared": ("not_declared", ("contact", "coil", "outVariable")), "connection": ("connection", ("contact", "coil", "return")),
+           "type": ("type", ("coil", "outVariable")), "input_or_output": ("input_or_output", ("contact",)), "no_preset": ("no_preset", ("block",))}
 NOTES = ("Seal-in & horn", "x < y, \u00fcber", "*) END_VAR (*", "no note", "]] >", "100 % -- \"so\"", "'")
+
+
+def opened_name(output):
+    """The name that the output of a block that isn't known has, in capitals, if it is free."""
+    block = output.block
+    if block.word:
+        return f"{block.word}_{output.word}".upper()
+    return f"{block.foreign}{block.number}".upper() + (f"_{output.word}" if output.word not in ("", "OUT") else "")
 
 
 class Writer:
@@ -15,7 +27,8 @@ class Writer:
         self.loose = chance.choice([0, 0, 0.02] if program.small else [0, 0.05, 0.3])
         self.parts = list(program.elements)
         {"positions": self.positioned, "document": self.listed, "numbers": self.numbered}[self.manner]()
-        self.spoiled, self.fault, self.is_named = None, "", False
+        self.spoiled, self.way, self.is_named = None, "", False
+        self.is_opened = self.is_so(0.95) if program.is_open else self.is_so(0.1)
         if self.is_so(0.04):
             self.spoil()
 
@@ -57,8 +70,9 @@ class Writer:
         for part in self.parts:
             part.left = [rails[0] if other in rails else other for other in part.left]
             part.second = [rails[0] if other in rails else other for other in part.second]
+            part.pins = {name: [rails[0] if other in rails else other for other in left] for name, left in part.pins.items()}
         self.parts = [part for part in self.parts if part not in rails[1:]]
-        if self.is_so(0.05):
+        if self.is_so(0.03):
             self.random.shuffle(self.parts)
         self.note()
         self.number(self.parts, range(len(self.parts)))
@@ -75,7 +89,7 @@ class Writer:
         if self.is_so(0.5):
             for part in self.parts:
                 part.down, part.across = self.random.randrange(900), self.random.randrange(900)
-        if self.is_so(0.05):
+        if self.is_so(0.03):
             chosen = self.random.choice([part for part in self.parts if part.execution])
             chosen.execution = self.random.randint(1, number)
         self.note()
@@ -83,31 +97,44 @@ class Writer:
         self.number(self.parts, self.random.sample(range(1, 100_000), len(self.parts)))
 
     def spoil(self):
-        """Has an element written in a way that is refused."""
-        ways = {"edge": ("contact", "coil"), "value": ACTING, "not_declared": ("contact", "coil", "outVariable"), "connection": ("contact", "coil", "return")}
-        ways |= {"modifier": ("outVariable", "inVariable", "return"), "type": ("coil", "outVariable"), "input_or_output": ("contact",), "no_preset": ("block",)}
-        self.fault, sorts = self.random.choice(list(ways.items()))
-        if self.fault in ("type", "input_or_output") and not self.program.blocks:
+        """Has an element written in a way that is refused, if it has to do with something that acts."""
+        self.way = self.random.choice(list(SPOILED))
+        if not {"type": self.program.kinds, "input_or_output": self.program.blocks}.get(self.way, True):
             return
-        some = [part for part in self.parts if part.sort in sorts and (self.fault != "no_preset" or part.preset)]
+        matters = reached(in_order(self.parts))
+        some = [part for part in self.parts if part.sort in SPOILED[self.way][1] and not part.foreign and (part.sort != "contact" or part in matters)]
+        some = [part for part in some if self.way != "no_preset" or part.preset]
         self.spoiled = self.random.choice(some) if some else None
 
-    def is_spoiled(self, element, *faults):
-        return element is self.spoiled and self.fault in faults
+    def is_spoiled(self, element, way):
+        return element is self.spoiled and self.way == way
 
     def operand(self, element):
         """The word of an element, as it is written."""
         if self.is_spoiled(element, "not_declared"):
-            return self.random.choice(["Nowhere", "Nowhere.Q", element.word + "1", ""])
+            names = [] if self.is_opened and element.sort == "outVariable" else ["Nowhere", element.word.split(".")[0] + "1"]
+            return self.random.choice(["Nowhere.Q", "", *names])
         if self.is_spoiled(element, "type"):
-            return self.program.output(next(iter(self.program.blocks)))
+            return self.program.output(self.random.choice(list(self.program.kinds)))
         if self.is_spoiled(element, "input_or_output"):
             return next(iter(self.program.blocks)) + self.random.choice([".ET", ".QX", ".", ".Q.Q"])
         return element.word if "#" in element.word else self.spelled(element.word)
 
     def refusals(self):
         """The fault lines that the text may have, apart from that of a drawing that is too large."""
-        return refusals(self.parts) | ({f"fault N5 element {self.spoiled.number} {self.fault}\n"} if self.spoiled else set())
+        found = refusals(self.parts, self.is_opened)
+        return found | ({f"fault N5 element {self.spoiled.number} {SPOILED[self.way][0]}\n"} if self.spoiled else set())
+
+    def opened(self):
+        """The outputs of blocks that aren't known on which something depends, by their names in capitals."""
+        taken = {variable.name.upper() for variable in self.program.variables}
+        found = {}
+        for output in reached(in_order(self.parts)):
+            if output.sort == "output":
+                name = opened_name(output)
+                names = [name, *(f"{name}_{number}" for number in range(1, 9))]
+                found[next(name for name in names if name not in taken)] = output
+        return found
 
     def note(self):
         """Puts comments and the like between the elements."""
@@ -173,8 +200,8 @@ class Writer:
         pairs = {"name": variable.name}
         if variable.address:
             pairs["address"] = variable.address
-        kind = self.tag("derived", {"name": self.spelled(variable.kind) if variable.kind in KINDS else "Recipe"})
-        kind = self.tag(variable.kind) if variable.kind not in (*KINDS, "derived") else kind
+        kind = self.tag("derived", {"name": self.spelled(variable.kind) if variable.kind in (*PINS, "RAMP") else "Recipe"})
+        kind = self.tag(variable.kind) if variable.kind not in (*PINS, "RAMP", "derived") else kind
         inside = [self.tag("type", None, kind)]
         if variable.kind == "BOOL" and (variable.initial or self.is_so(0.1)):
             value = self.random.choice(["TRUE", "1", "true"] if variable.initial else ["FALSE", "0", "False"])
@@ -195,9 +222,11 @@ class Writer:
         return [self.tag("relPosition", {"x": self.random.randint(0, 40), "y": 8})] if self.manner == "positions" and not self.program.small else []
 
     def connection(self, other):
-        pairs = {"refLocalId": other.number if other else 123_456}
+        pairs = {"refLocalId": (other.block or other).number if other else 123_456}
         if other is None:
             pass
+        elif other.sort == "output":
+            pairs |= {"formalParameter": other.word} if other.word or self.is_so(0.5) else {}
         elif other.sort == "block" and self.is_so(0.8):
             pairs["formalParameter"] = self.program.output(other.word).split(".")[1]
         elif self.is_so(0.02):
@@ -211,23 +240,35 @@ class Writer:
             return []
         return [self.tag("connectionPointIn", None, *self.relative(), *map(self.connection, elements))]
 
-    def pin(self, name, elements):
+    def pin(self, name, elements, *edge):
         """An input of a block."""
         more = {"negated": "false", "edge": "none", "storage": "none"} if self.is_so(0.1) and not self.program.small else {}
+        more |= {"edge": word for word in edge}
         return self.tag("variable", {"formalParameter": name, **more}, *self.point(elements))
 
-    def block(self, element):
-        """The inputs and outputs of a block."""
-        kind = self.program.blocks[element.word][0]
-        first, second, preset = KINDS[kind]
+    def pins(self, element):
+        """The inputs of a block by their names, and the names of its outputs."""
+        if element.foreign:
+            return list(element.pins.items()), [output.word for output in element.outputs]
+        kind = self.program.kinds[element.word]
+        first, second, preset = PINS[kind]
         pins = [(SPELLED.get((kind, first), first) if self.is_so(0.4) else first, element.left)]
         pins += [(SPELLED.get((kind, second), second) if self.is_so(0.4) else second, element.second)] if second and (element.second or self.is_so(0.8)) else []
         pins += [(preset, [element.preset])] if preset and not self.is_spoiled(element, "no_preset") else []
         if self.is_so(0.2):
             self.random.shuffle(pins)
-        outputs = [self.program.output(element.word).split(".")[1], *{"PT": ["ET"], "PV": ["CV"]}.get(preset, [])]
-        made = [self.tag("inputVariables", None, *(self.pin(*pin) for pin in pins)), self.tag("inOutVariables")]
-        return made + [self.tag("outputVariables", None, *(self.tag("variable", {"formalParameter": name}, self.tag("connectionPointOut")) for name in outputs))]
+        return pins, [self.program.output(element.word).split(".")[1], *{"PT": ["ET"], "PV": ["CV"]}.get(preset, [])]
+
+    def block(self, element):
+        """The inputs and outputs of a block; one of them has an edge, where that is to be refused."""
+        pins, outputs = self.pins(element)
+        edges = [[] for _ in (*pins, *outputs)]
+        if self.is_spoiled(element, "pin_edge"):
+            self.random.choice(edges).append(self.random.choice(EDGES))
+        inputs = [self.pin(*pin, *edge) for pin, edge in zip(pins, edges)]
+        given = [({"formalParameter": name} | {"edge": word for word in edge}) for name, edge in zip(outputs, edges[len(pins):])]
+        made = [self.tag("inputVariables", None, *inputs), self.tag("inOutVariables")]
+        return made + [self.tag("outputVariables", None, *(self.tag("variable", pairs, self.tag("connectionPointOut")) for pairs in given))]
 
     def inside(self, element):
         """What an element has in it, behind its position."""
@@ -250,9 +291,22 @@ class Writer:
 
     def modifiers(self, element):
         """The attributes of a contact or a coil, and those of another element that is refused for them."""
-        pairs = {"edge": self.random.choice(["rising", "falling"])} if self.is_spoiled(element, "edge") else {"edge": "none"} if self.is_so(0.1) else {}
-        pairs |= {"negated": "true"} if element.negated or self.is_spoiled(element, "modifier") else {"negated": "false"} if self.is_so(0.3) else {}
-        return pairs | ({"storage": element.storage} if element.storage != "none" or self.is_so(0.1) else {})
+        negated, edge, storage = element.negated or self.is_spoiled(element, "modifier"), element.edge or "none", element.storage
+        if self.is_spoiled(element, "edge_word"):
+            negated, edge, storage = False, self.random.choice(["both", "up"]), "none"
+        if self.is_spoiled(element, "edge") or self.is_spoiled(element, "edge_modifier"):
+            edge = self.random.choice(EDGES)
+        if self.is_spoiled(element, "edge_modifier"):
+            storage = self.random.choice(["none", "set", "reset"]) if element.sort == "coil" else "none"
+            negated = storage == "none"
+        pairs = {"edge": edge} if edge != "none" or self.is_so(0.1) else {}
+        pairs |= {"negated": "true"} if negated else {"negated": "false"} if self.is_so(0.3) else {}
+        return pairs | ({"storage": storage} if storage != "none" or self.is_so(0.1) else {})
+
+    def type_and_name(self, element):
+        """The attributes that say which block an element is."""
+        pairs = {"typeName": self.spelled(element.foreign or self.program.kinds[element.word])}
+        return pairs | ({"instanceName": self.spelled(element.word)} if element.word else {})
 
     def element(self, element):
         """An element of the diagram."""
@@ -262,14 +316,14 @@ class Writer:
         if element.sort in ("label", "jump"):
             pairs["label"] = element.word
         if element.sort == "block":
-            pairs |= {"typeName": self.spelled(self.program.blocks[element.word][0]), "instanceName": self.spelled(element.word)}
-        if element.sort in ("contact", "coil") or self.is_spoiled(element, "modifier"):
+            pairs |= self.type_and_name(element)
+        if element.sort in ("contact", "coil") or self.is_spoiled(element, "modifier") or self.is_spoiled(element, "edge"):
             pairs |= self.modifiers(element)
         if self.manner == "positions" and not self.program.small:
             pairs |= {"width": self.random.randint(2, 99), "height": self.random.randint(2, 99)}
-        across = self.random.choice(["-5", "1.5", "", "1234567890"]) if self.is_spoiled(element, "value") else element.across
+        across = self.random.choice(["-5", "1.5", "", "1234567890"]) if self.is_spoiled(element, "position") else element.across
         has_place = across or element.down or self.is_so(0.8 if self.manner == "document" and not self.program.small else 0.1)
-        place = [self.tag("position", {"x": across, "y": element.down})] if has_place or self.is_spoiled(element, "value") else []
+        place = [self.tag("position", {"x": across, "y": element.down})] if has_place or self.is_spoiled(element, "position") else []
         return self.tag(element.sort, pairs, *place, *self.inside(element))
 
     def pous(self):

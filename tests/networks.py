@@ -1,10 +1,12 @@
 #!/usr/bin/env python3
 """Compares `ladder import FILE.xml` with a run of the networks: networks.py PROGRAM [NUMBER [SEED]].
 
-Each of so many programs (200) is made at random: contacts, coils, blocks, returns and variables in networks that needn't be in series and parallel
-(network_programs.py). It is written as a project in PLCopen XML as one of three tools does: with positions, in the order of the document, or with
-execution numbers (network_texts.py); a fourth of them is imported by its name, beside another program or alone. What is imported must be a program (`ladder check`), and in 40 scans of a random stimulus each variable and each
-output of a block must have the value that it has here: the elements act one after the other, each by the power that has a way to it from the left. A
+Each of so many programs (200) is made at random: contacts, coils, blocks, returns and variables in networks that needn't be in series and parallel,
+and edges and triggers (network_programs.py). It is written as a project in PLCopen XML as one of three tools does: with positions, in the order of the
+document, or with execution numbers (network_texts.py); a fourth of them is imported by its name, beside another program or alone. What is imported must
+be a program (`ladder check`), and in 40 scans of a random stimulus each variable and each output of a block must have the value that it has here: the
+elements act one after the other, each by the power that has a way to it from the left. A part of the programs has blocks that aren't known, and is
+imported with --open: each output of such a block on which something depends must be an input of the drawing, which has any value in each scan. A
 program that is refused must have what the fault line says, and one that has such a thing must be refused; at least 85 of 100 are accepted.
 
 Then 20 short texts are broken at 400 places each, or at all places, each in four ways, where NUMBER is 2,000 or more: a byte is removed, doubled or
@@ -20,7 +22,7 @@ import tempfile
 from collections import Counter
 from concurrent.futures import ProcessPoolExecutor
 
-from exporting import asked, difference, names_of, scanned, stimulus_of
+from exporting import asked, difference, names_of, scanned, stimulus_of, words_of
 from network_programs import Networks, Program, in_order
 from network_texts import Writer
 
@@ -41,18 +43,25 @@ def project(seed, small):
 # ---- the comparison
 
 
-def imported(program, folder, text, name):
+def imported(program, folder, text, *words):
     """The drawing, or what is said of why there is none."""
     (folder / "project.xml").write_text(text, "utf-8", newline="")
-    status, drawing, fault = asked([program], folder, "import", "project.xml", *(["--pou", name] if name else []))
+    status, drawing, fault = asked([program], folder, "import", "project.xml", *words)
     assert (status, bool(drawing), bool(fault)) in ((0, True, False), (1, False, True)), f"status {status}\n{drawing}{fault}"
     return drawing, fault
+
+
+def opened_names(writer, drawing):
+    """The outputs of blocks that aren't known by the names that their inputs have in the drawing."""
+    words, opened = words_of(drawing), writer.opened()
+    assert set(opened) <= set(words), f"no input for one of {sorted(opened)}\n{drawing}"
+    return {words[name]: output for name, output in opened.items()}
 
 
 def compared(program, folder, seed, made):
     """What is found of a program."""
     source, writer, text = made
-    drawing, fault = imported(program, folder, text, source.name if writer.is_named else None)
+    drawing, fault = imported(program, folder, text, *["--open"] * writer.is_opened, *["--pou", source.name] * writer.is_named)
     due = writer.refusals()
     if fault:
         assert fault in due or re.fullmatch("fault N6 .*\n", fault), f"{fault}refused, not one of {sorted(due)}"
@@ -60,12 +69,15 @@ def compared(program, folder, seed, made):
     assert not due, f"not refused by any of {sorted(due)}\n{drawing}"
     (folder / "program.ld").write_text(drawing)
     assert asked([program], folder, "check", "program.ld")[::2] == (0, ""), f"no program:\n{drawing}"
-    names = names_of(source, drawing)
+    opened = opened_names(writer, drawing)
+    names = names_of(source, drawing) | opened
+    source.inputs = [*source.inputs, *opened.values()]
     declared = [key for key, value in names.items() if value in source.inputs]
     records = stimulus_of(random.Random(seed), declared)
     rows = scanned(program, folder, "program.ld", declared, records)
     shown = {names[key] for key in rows[0] if key in names}
-    assert shown | set(source.inputs) >= {*source.initial, *map(source.output, source.blocks)}, f"not all is there:\n{drawing}"
+    wanted = {*source.initial, *map(source.output, source.blocks)} - {f"{name}.Q" for name, _ in source.triggers}
+    assert shown | set(source.inputs) >= wanted, f"not all is there:\n{drawing}"
     wrong = difference(rows, names, Networks(source), in_order(writer.parts), records)
     assert wrong is None, f"{wrong}\n{drawing}"
     return "alike"
@@ -90,10 +102,10 @@ def broken(text, place, way, byte):
     return text[:place] + put + (b"" if way == "cut" else text[place + 1:])
 
 
-def answered(program, folder, text):
-    """What is wrong with the answer to a broken text."""
+def answered(program, folder, text, words):
+    """What is wrong with the answer to a broken text, which is imported with these words."""
     (folder / "broken.xml").write_bytes(text)
-    done = subprocess.run([program, "import", "broken.xml"], cwd=folder, capture_output=True, check=False, timeout=60)
+    done = subprocess.run([program, "import", "broken.xml", *words], cwd=folder, capture_output=True, check=False, timeout=60)
     if done.returncode == 1 and not done.stdout and FAULT.fullmatch(done.stderr):
         return None
     if done.returncode == 0 and done.stdout and not done.stderr:
@@ -116,9 +128,10 @@ def broken_trial(program, seed, everywhere):
     """What is wrong with each answer to a text that is broken, None where nothing is."""
     chance, text = random.Random(seed), b""
     while not 0 < len(text) < SHORT:
-        text = project(chance.randrange(1 << 40), True)[2].encode()
+        _, writer, written = project(chance.randrange(1 << 40), True)
+        text, words = written.encode(), ["--open"] * writer.is_opened
     with tempfile.TemporaryDirectory() as name:
-        return [answered(program, pathlib.Path(name), broken(text, *change)) for change in breakings(text, chance, everywhere)]
+        return [answered(program, pathlib.Path(name), broken(text, *change), words) for change in breakings(text, chance, everywhere)]
 
 
 # ---- the whole

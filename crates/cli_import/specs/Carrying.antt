@@ -50,11 +50,12 @@ BreaksProject reading why text out out' err err' =
 
 -- ---- both kinds of projects, which are told apart by their first bytes
 
--- A text that begins as XML does is one of PLCopen XML, of which a program may be named, and any other one of ClassicLadder.
+-- A text that begins as XML does is one of PLCopen XML, of which a program may be named, and any other one of ClassicLadder. What isn't known of either
+-- may be open.
 abbrev pub Carries : ReadingOptions → (name : Option (List ℕ)) → (text : List ℕ) → (List ℕ → Type 0) → Type 0
 Carries reading name text Written =
-    ((is_xml text ≡ false) × CarriesProject reading text Written) ⊎ ((is_xml text ≡ true) × CarriesUnit name text Written)
+    ((is_xml text ≡ false) × CarriesProject reading text Written) ⊎ ((is_xml text ≡ true) × CarriesUnit name reading.opened text Written)
 
 abbrev pub BreaksCarrying : ReadingOptions → Bool → (name : Option (List ℕ)) → (text : List ℕ) → WriteLog → WriteLog → WriteLog → WriteLog → Type 0
 BreaksCarrying reading why name text out out' err err' =
-    ((is_xml text ≡ false) × BreaksProject reading why text out out' err err') ⊎ ((is_xml text ≡ true) × BreaksUnit why name text out out' err err')
+    ((is_xml text ≡ false) × BreaksProject reading why text out out' err err') ⊎ ((is_xml text ≡ true) × BreaksUnit why name reading.opened text out out' err err')

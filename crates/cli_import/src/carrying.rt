@@ -12,6 +12,7 @@ use cli_plc::{is_xml, write_unit};
 use clp_import::{ImportFault, Linked, import, refusals};
 use clp_project::{Project, ReadingOptions, joined, links_in, read_project};
 use io_text::{Sink, WriteFault, put};
+use plc_import::UnitChoice;
 use std::alloc::Global;
 
 /// How a project is imported.
@@ -151,7 +152,11 @@ pub fn carry<O: Sink, E: Sink>(
     ensures failed { result ≡ 1 → BreaksCarrying importing.entry.reading importing.entry.why (option_map (λ word. word.now) importing.entry.pou) text.now (O.log out.old) (O.log out.new) (E.log err.old) (E.log err.new) }
 {
     if is_xml(text) {
-        return write_unit(alloc, importing.why, text, importing.pou, out, err);
+        let choice = UnitChoice {
+            name: importing.pou,
+            is_open: importing.reading.opened,
+        };
+        return write_unit(alloc, importing.why, text, choice, out, err);
     }
     carry_clp(alloc, importing.reading, importing.why, text, hal, out, err)
 }

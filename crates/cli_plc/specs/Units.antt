@@ -14,12 +14,12 @@ use Rattle.cli_plc.specs.Lines.{unit_text}
 use Rattle.cli_plc.specs.Xml.{xml_text}
 
 -- The text is a document of a project with the program that is asked for, by its name or as the only one, and a program text of it is written, whole or
--- as far as `Written` says.
-pub record CarriesUnit (name : Option (List ℕ)) (text : List ℕ) (Written : List ℕ → Type 0) : Type 0 where
+-- as far as `Written` says. Outputs of blocks that aren't known may be open.
+pub record CarriesUnit (name : Option (List ℕ)) (is_open : Bool) (text : List ℕ) (Written : List ℕ → Type 0) : Type 0 where
   pub document : List Item
   pub is : IsDocument text document
   pub drawn : List ℕ
-  pub imported : IsImported document name drawn
+  pub imported : IsImported document name is_open drawn
   pub written : Written drawn
 
 -- What is said where there is no program text: why the text is no document.
@@ -37,6 +37,6 @@ pub record SaysOfUnit (why : Bool) (text : List ℕ) (old new : WriteLog) : Type
   pub written : PutsAll old new said ⊎ PutsPrefix old new said
 
 -- Status 1: there is no program text, and nothing is on `out`; or `out` failed.
-abbrev pub BreaksUnit : Bool → (name : Option (List ℕ)) → (text : List ℕ) → WriteLog → WriteLog → WriteLog → WriteLog → Type 0
-BreaksUnit why name text out out' err err' =
-    ((out' ≡ out) × SaysOfUnit why text err err') ⊎ (CarriesUnit name text (PutsPrefix out out') × IsReported (unread why) err err' fault.Write)
+abbrev pub BreaksUnit : Bool → (name : Option (List ℕ)) → (is_open : Bool) → (text : List ℕ) → WriteLog → WriteLog → WriteLog → WriteLog → Type 0
+BreaksUnit why name is_open text out out' err err' =
+    ((out' ≡ out) × SaysOfUnit why text err err') ⊎ (CarriesUnit name is_open text (PutsPrefix out out') × IsReported (unread why) err err' fault.Write)

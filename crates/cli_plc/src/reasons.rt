@@ -14,6 +14,7 @@ pub(crate) fn reason_word(reason: PlcReason) -> &'static [u8]
         PlcReason::Twice => b" declared_twice\n",
         PlcReason::Retain => b" retain\n",
         PlcReason::Address => b" address\n",
+        PlcReason::AddressTwice => b" address_twice\n",
         PlcReason::Initial => b" initial_value\n",
         PlcReason::Undeclared => b" not_declared\n",
         PlcReason::Type => b" type\n",
@@ -49,6 +50,7 @@ pub(crate) fn reason_sentence(reason: PlcReason) -> &'static [u8]
             b"N5: variables that are retained, persistent or constant can't be declared by a program\n"
         }
         PlcReason::Address => { b"N5: the address isn't one that a program can have\n" }
+        PlcReason::AddressTwice => { b"N5: another variable has this address\n" }
         PlcReason::Initial => { b"N5: the value at the start isn't TRUE or FALSE\n" }
         PlcReason::Undeclared => {
             b"N5: the name isn't declared, or isn't a BOOL or a standard function block\n"
@@ -61,17 +63,17 @@ pub(crate) fn reason_sentence(reason: PlcReason) -> &'static [u8]
         PlcReason::Value => {
             b"N5: a position, a number or an attribute of the element can't be read\n"
         }
-        PlcReason::Edge => {
-            b"N5: edges aren't carried over; R_TRIG and F_TRIG in Structured Text are\n"
-        }
+        PlcReason::Edge => { b"N5: only contacts and coils can have an edge\n" }
         PlcReason::Modifier => { b"N5: the element can't be negated or stored so\n" }
         PlcReason::Block => {
-            b"N5: the block isn't one of TON, TOF, TP, CTU, CTD, SR and RS, or its type isn't the one that is declared\n"
+            b"N5: the block isn't one of TON, TOF, TP, CTU, CTD, SR, RS, R_TRIG and F_TRIG (--open takes others, but for inOutVariables), or its type isn't the one that is declared\n"
         }
         PlcReason::Formal => {
             b"N5: the block has no such input or output, or it is given twice\n"
         }
-        PlcReason::Preset => { b"N5: the preset is no literal\n" }
+        PlcReason::Preset => {
+            b"N5: the preset is no literal, or not one that the block can have\n"
+        }
         PlcReason::NoPreset => { b"N5: the preset of the block is missing\n" }
         PlcReason::Jump => {
             b"N5: a jump leads down, to one label, and not into or out of what another one passes over\n"

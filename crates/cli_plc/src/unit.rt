@@ -10,7 +10,7 @@ use crate::lines::write_fault;
 use crate::xml::write_xml_fault;
 use cli_inputs::{ToolFault, report_unread};
 use io_text::{Sink, WriteFault, put};
-use plc_import::import_plc;
+use plc_import::{UnitChoice, import_plc};
 use std::alloc::Global;
 use xml_document::{Document, read_document};
 
@@ -30,16 +30,16 @@ fn write_document<O: Sink, E: Sink>(
     why: bool,
     text: &[u8],
     document: &Document,
-    name: Option<&[u8]>,
+    choice: UnitChoice<'_>,
     out: &mut O,
     err: &mut E,
 ) -> u8
     requires { IsDocument text.now (items_of document.now) }
     ensures status { result ≤ 1 }
-    ensures done { result ≡ 0 → CarriesUnit (option_map (λ word. word.now) name.entry) text.now (PutsAll (O.log out.old) (O.log out.new)) × (E.log err.new ≡ E.log err.old) }
-    ensures failed { result ≡ 1 → BreaksUnit why (option_map (λ word. word.now) name.entry) text.now (O.log out.old) (O.log out.new) (E.log err.old) (E.log err.new) }
+    ensures done { result ≡ 0 → CarriesUnit (option_map (λ word. word.now) choice.entry.name) choice.entry.is_open text.now (PutsAll (O.log out.old) (O.log out.new)) × (E.log err.new ≡ E.log err.old) }
+    ensures failed { result ≡ 1 → BreaksUnit why (option_map (λ word. word.now) choice.entry.name) choice.entry.is_open text.now (O.log out.old) (O.log out.new) (E.log err.old) (E.log err.new) }
 {
-    match import_plc(alloc, document, name) {
+    match import_plc(alloc, document, choice) {
         Ok(drawn) => match put(out, &drawn) {
             Ok(()) => 0,
             Err(_) => report_unread(why, &ToolFault::Write, err),
@@ -49,22 +49,23 @@ fn write_document<O: Sink, E: Sink>(
 }
 
 /// Writes the program text of a program of a project in PLCopen XML on `out`, or on `err` the line of the fault for which there is none,
-/// explained where that is asked for. The program is the unit with a name, or the only one that is a program. Returns the status: 0 where the
+/// explained where that is asked for. The program is the unit with a name, or the only one that is a program; outputs of
+/// blocks that aren't known become inputs of it, if that is asked for. Returns the status: 0 where the
 /// whole text was written, or 1.
 pub fn write_unit<O: Sink, E: Sink>(
     alloc: Global,
     why: bool,
     text: &[u8],
-    name: Option<&[u8]>,
+    choice: UnitChoice<'_>,
     out: &mut O,
     err: &mut E,
 ) -> u8
     ensures status { result ≤ 1 }
-    ensures done { result ≡ 0 → CarriesUnit (option_map (λ word. word.now) name.entry) text.now (PutsAll (O.log out.old) (O.log out.new)) × (E.log err.new ≡ E.log err.old) }
-    ensures failed { result ≡ 1 → BreaksUnit why (option_map (λ word. word.now) name.entry) text.now (O.log out.old) (O.log out.new) (E.log err.old) (E.log err.new) }
+    ensures done { result ≡ 0 → CarriesUnit (option_map (λ word. word.now) choice.entry.name) choice.entry.is_open text.now (PutsAll (O.log out.old) (O.log out.new)) × (E.log err.new ≡ E.log err.old) }
+    ensures failed { result ≡ 1 → BreaksUnit why (option_map (λ word. word.now) choice.entry.name) choice.entry.is_open text.now (O.log out.old) (O.log out.new) (E.log err.old) (E.log err.new) }
 {
     match read_document(alloc, text) {
-        Ok(document) => write_document(alloc, why, text, &document, name, out, err),
+        Ok(document) => write_document(alloc, why, text, &document, choice, out, err),
         Err(fault) => told(write_xml_fault(why, text, fault, err)),
     }
 }

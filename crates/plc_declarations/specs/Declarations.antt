@@ -1,9 +1,5 @@
 -- What the interface of a program in PLCopen XML declares, as a program in Structured Text declares it.
 use Rattle.std.specs.Prelude.{◌≡◌, ℕ, Bool, true, false, List, [], ◌∷◌, codes, Option, Some, None, option_map}
-use Rattle.std.specs.List.{list_any}
-use Rattle.std.specs.Str.{bytes_eq}
-use Rattle.diagram_declarations.specs.declared.kind.BlockKind.{BlockKind}
-use Rattle.diagram_declarations.specs.declared.kind.BlockKind.TheVariants as kind
 use Rattle.diagram_declarations.specs.Kind.{traits_of}
 use Rattle.diagram_declarations.specs.Name.{same_letters}
 use Rattle.st_words.specs.Places.{spelled}
@@ -13,6 +9,7 @@ use Rattle.st_program.specs.declared.symbols.Sort.TheVariants as sort
 use Rattle.st_program.specs.declared.symbols.StVariable.{StVariable}
 use Rattle.xml_document.specs.Items.{Item}
 use Rattle.xml_parts.specs.Parts.{all_in, attribute_in, parts_in}
+use Rattle.plc_declarations.specs.Types.{is_known_type, trigger_sort, trigger_word}
 use Rattle.plc_declarations.specs.declared.types.VariableType.{VariableType}
 use Rattle.plc_declarations.specs.declared.types.VariableType.TheVariants as type
 use Rattle.plc_declarations.specs.Words.{address_in, initial_in, is_plain, section_of, type_in}
@@ -27,16 +24,10 @@ abbrev pub IsDerived : List Item → (name : List ℕ) → Type 0
 IsDerived items name =
     (part : List ℕ × List Item) × (type_in items ≡ Some part) × (part.0 ≡ codes "derived") × (attribute_in (codes "name") part.1 ≡ Some name)
 
-abbrev pub standard : List BlockKind
-standard = kind.Ton ∷ kind.Tof ∷ kind.Tp ∷ kind.Ctu ∷ kind.Ctd ∷ kind.Sr ∷ kind.Rs ∷ []
-
-abbrev pub is_standard : (name : List ℕ) → Bool
-is_standard name = list_any (λ k. same_letters name (traits_of k).word) standard
-
--- The type is neither BOOL nor a standard function block, so that no program can have the variable.
+-- The type is neither BOOL nor a function block that a program can have, so that it can't have the variable.
 pub record IsOther (items : List Item) : Type 0 where
   pub no_bool : IsBool items → ⊥
-  pub no_block : (name : List ℕ) → IsDerived items name → is_standard name ≡ false
+  pub no_block : (name : List ℕ) → IsDerived items name → is_known_type name ≡ false
 
 -- what a type is
 abbrev pub IsType : List Item → VariableType → Type 0
@@ -60,11 +51,24 @@ pub record IsInstance (text : List ℕ) (items : List Item) (x : StInstance) : T
   pub kind : same_letters type_name (traits_of x.kind).word ≡ true
   pub named : attribute_in (codes "name") items ≡ Some (spelled text x.name)
 
+-- a trigger, whose output is a variable of the program
+pub record IsTrigger (text : List ℕ) (section : Section) (items : List Item) (x : StVariable) : Type 0 where
+  pub falling : Bool
+  pub type_name : List ℕ
+  pub derived : IsDerived items type_name
+  pub kind : same_letters type_name (trigger_word falling) ≡ true
+  pub named : attribute_in (codes "name") items ≡ Some (spelled text x.name)
+  pub placed : option_map (spelled text) x.address ≡ address_in items
+  pub initial : x.initial ≡ false
+  pub listed : x.section ≡ section
+  pub sort : x.sort ≡ trigger_sort falling
+
 -- ---- all variables
 
--- A variable of a list declares what comes before the others: a BOOL a variable, a function block an instance, and any other nothing.
+-- A variable of a list declares what comes before the others: a BOOL or a trigger a variable, a function block an instance, and any other nothing.
 pub data DeclareOne (text : List ℕ) (section : Section) (items : List Item) (xs others : List StVariable) (is more : List StInstance) : Type 0 where
   variable : (x : StVariable) → xs ≡ x ∷ others → is ≡ more → IsVariable text section items x → DeclareOne text section items xs others is more
+  trigger : (x : StVariable) → xs ≡ x ∷ others → is ≡ more → IsTrigger text section items x → DeclareOne text section items xs others is more
   block : (i : StInstance) → xs ≡ others → is ≡ i ∷ more → IsInstance text items i → DeclareOne text section items xs others is more
   left_out : xs ≡ others → is ≡ more → IsOther items → DeclareOne text section items xs others is more
 

@@ -1,16 +1,15 @@
 //! Variables of PLCopen XML and those of a program in Structured Text, one by one.
 
 ghost use Rattle.std.specs.Prelude.{◌≡◌, ◌∷◌, IfOk, IfSome, IsTrue, Some, codes, map, option_map};
-ghost use Rattle.st_program.specs.declared.symbols.Sort.TheVariants.{Bool};
 ghost use Rattle.st_words.specs.Places.{spelled};
 ghost use Rattle.xml_parts.specs.Parts.{attribute_in, items_from};
-ghost use Rattle.plc_declarations.specs.Declarations.{Declare, DeclareOne, IsBool, IsDerived, IsInstance, IsVariable};
+ghost use Rattle.plc_declarations.specs.Declarations.{Declare, DeclareOne, IsBool, IsDerived, IsInstance, IsTrigger, IsVariable};
 ghost use Rattle.plc_declarations.specs.Words.{address_in};
 
-use crate::types::{VariableType, type_of};
+use crate::types::{VariableType, is_bool, is_trigger_sort, trigger_word, type_of};
 use crate::words::{address_in, initial_in};
 use diagram_declarations::same_letters;
-use st_program::{Section, Sort, StInstance, StVariable, bytes_of};
+use st_program::{Section, StInstance, StVariable, bytes_of};
 use st_words::Word;
 use std::alloc::{AllocError, Global};
 use xml_document::Document;
@@ -40,13 +39,6 @@ fn is_same_section(first: Section, second: Section) -> bool
         | (Section::Output, Section::Output) => true,
         _ => false,
     }
-}
-
-/// Whether a variable is a BOOL.
-fn is_bool(x: StVariable) -> bool
-    ensures { IsTrue result → x.sort ≡ Bool }
-{
-    matches!(x.sort, Sort::Bool)
 }
 
 /// Whether a variable has the name of a word.
@@ -99,6 +91,41 @@ fn is_instance(texts: Texts<'_>, type_name: &[u8], place: usize, x: StInstance) 
     same_letters(type_name, x.kind.traits().word) && is_named(texts, place, x.name)
 }
 
+/// Whether a trigger of a type is a variable of the program, for falling edges or for rising ones.
+fn is_trigger_for(
+    texts: Texts<'_>,
+    section: Section,
+    type_name: &[u8],
+    place: usize,
+    falling: bool,
+    x: StVariable,
+) -> bool
+    ensures { IsTrue result → IsDerived (items_from texts.entry.document.now place) type_name.now
+        → IsTrigger texts.entry.text.now section (items_from texts.entry.document.now place) x }
+{
+    same_letters(type_name, trigger_word(falling))
+        && is_trigger_sort(x, falling)
+        && !x.initial
+        && is_same_section(x.section, section)
+        && is_named(texts, place, x.name)
+        && is_placed(texts, place, x.address)
+}
+
+/// Whether a trigger of a type is a variable of the program.
+fn is_trigger(
+    texts: Texts<'_>,
+    section: Section,
+    type_name: &[u8],
+    place: usize,
+    x: StVariable,
+) -> bool
+    ensures { IsTrue result → IsDerived (items_from texts.entry.document.now place) type_name.now
+        → IsTrigger texts.entry.text.now section (items_from texts.entry.document.now place) x }
+{
+    is_trigger_for(texts, section, type_name, place, false, x)
+        || is_trigger_for(texts, section, type_name, place, true, x)
+}
+
 /// The first variable, and those behind it.
 fn first_variable<'a>(names: Names<'a>) -> Option<(StVariable, Names<'a>)>
     ensures variables { IfSome result (λ found. names.entry.variables.now ≡ found.0 ∷ found.1.variables.now) }
@@ -133,8 +160,53 @@ fn first_instance<'a>(names: Names<'a>) -> Option<(StInstance, Names<'a>)>
     }
 }
 
+/// Those behind a trigger of a type, if it is the first variable.
+#[tactic(auto, using(crate::specs::Declarations::trigger))]
+fn behind_trigger<'a>(
+    texts: Texts<'_>,
+    section: Section,
+    type_name: &[u8],
+    place: usize,
+    names: Names<'a>,
+) -> Option<Names<'a>>
+    ensures { IfSome result (λ rest. IsDerived (items_from texts.entry.document.now place) type_name.now
+        → DeclareOne texts.entry.text.now section (items_from texts.entry.document.now place)
+        names.entry.variables.now rest.variables.now names.entry.instances.now rest.instances.now) }
+{
+    let (x, rest) = first_variable(names)?;
+    if is_trigger(texts, section, type_name, place, x) {
+        Some(rest)
+    } else {
+        None
+    }
+}
+
+/// Those behind a block of a type, if it is the first instance or the first variable.
+#[tactic(auto, using(crate::specs::Declarations::block))]
+fn behind_block<'a>(
+    texts: Texts<'_>,
+    section: Section,
+    type_name: &[u8],
+    place: usize,
+    names: Names<'a>,
+) -> Option<Names<'a>>
+    ensures { IfSome result (λ rest. IsDerived (items_from texts.entry.document.now place) type_name.now
+        → DeclareOne texts.entry.text.now section (items_from texts.entry.document.now place)
+        names.entry.variables.now rest.variables.now names.entry.instances.now rest.instances.now) }
+{
+    if let Some(rest) = behind_trigger(texts, section, type_name, place, names) {
+        return Some(rest);
+    }
+    let (x, rest) = first_instance(names)?;
+    if is_instance(texts, type_name, place, x) {
+        Some(rest)
+    } else {
+        None
+    }
+}
+
 /// Those behind what a variable of a list declares.
-#[tactic(auto, using(crate::specs::Declarations::variable, crate::specs::Declarations::block, crate::specs::Declarations::left_out))]
+#[tactic(auto, using(crate::specs::Declarations::variable, crate::specs::Declarations::left_out))]
 fn behind<'a>(
     alloc: Global,
     texts: Texts<'_>,
@@ -156,12 +228,9 @@ fn behind<'a>(
             Ok(Some(rest))
         }
         VariableType::Derived(name) => {
-            let Some((x, rest)) = first_instance(names) else {
+            let Some(rest) = behind_block(texts, section, name, place, names) else {
                 return Ok(None);
             };
-            if !is_instance(texts, name, place, x) {
-                return Ok(None);
-            }
             Ok(Some(rest))
         }
         VariableType::Other => Ok(Some(names)),

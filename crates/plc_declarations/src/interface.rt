@@ -70,7 +70,7 @@ fn behind_parts<'a>(
     Ok(Some(last))
 }
 
-/// Whether an interface, where a program has one, declares these variables and instances and no others: BOOL variables and standard function
+/// Whether an interface, where a program has one, declares these variables and instances and no others: BOOL variables, triggers and standard function
 /// blocks, each list in the section that it is. Variables of other types are left out. The place is the one behind the name of the interface.
 ///
 /// # Errors

@@ -7,3 +7,4 @@ mod types;
 mod words;
 
 pub use interface::is_interface;
+pub use types::{is_bool, is_known_type, is_trigger_sort, trigger_word};

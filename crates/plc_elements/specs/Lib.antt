@@ -1,6 +1,10 @@
 pub mod Words
 pub mod Names
+pub mod Unknown
+pub mod Added
 pub mod Elements
 pub mod Effects
+pub mod Edges
 pub mod Order
 pub mod Body
+pub mod Stages

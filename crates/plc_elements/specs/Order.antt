@@ -8,7 +8,9 @@ use Rattle.std.specs.Str.{bytes_eq}
 use Rattle.diagram_declarations.specs.Duration.{number_of}
 use Rattle.xml_document.specs.Items.{Item}
 use Rattle.xml_parts.specs.Parts.{part_in}
+use Rattle.plc_elements.specs.declared.names.Body.{Body}
 use Rattle.plc_elements.specs.declared.order.Key.{Key}
+use Rattle.plc_elements.specs.Unknown.{is_left_out}
 use Rattle.plc_elements.specs.Words.{attribute_or}
 
 -- the parts that act
@@ -22,10 +24,11 @@ acts part = list_any (bytes_eq part.0) acting
 abbrev pub is_ordered : List ℕ × List Item → Bool
 is_ordered part = bytes_eq part.0 (codes "label") || acts part
 
--- the places of those in the order among the parts, counted from a number on
-abbrev pub acting_from : ℕ → List (List ℕ × List Item) → List ℕ
-acting_from n [] = []
-acting_from n (part ∷ parts) = if is_ordered part then n ∷ acting_from (n + 1) parts else acting_from (n + 1) parts
+-- the places of those in the order among the parts, but for those that are left out, counted from a number on
+abbrev pub acting_from : Body → ℕ → List (List ℕ × List Item) → List ℕ
+acting_from b n [] = []
+acting_from b n (part ∷ parts) =
+    if is_ordered part && not (is_left_out b part) then n ∷ acting_from b (n + 1) parts else acting_from b (n + 1) parts
 
 -- ---- numbers and places
 

@@ -1,77 +1,77 @@
 //! A body, compared with a network and what its elements do.
 
-ghost use Rattle.std.specs.Prelude.{◌≡◌, IfOk, IfSome, IsTrue};
-ghost use Rattle.plc_elements.specs.Body.{Acts, AreDone, IsBody, is_behind};
+ghost use Rattle.std.specs.Prelude.{◌≡◌, [], IfOk, IsTrue, None, true};
+ghost use Rattle.plc_elements.specs.Body.{AreDone, IsBody, are_in, have_memories};
 ghost use Rattle.plc_elements.specs.Elements.{parts_of};
-ghost use Rattle.plc_elements.specs.Order.{are_numbered};
+ghost use Rattle.plc_elements.specs.Order.{acting_from};
 
-use crate::effects::is_done;
+use crate::edges::Leading;
 use crate::elements::are_parts;
-use crate::jumps::lands;
 use crate::names::Body;
-use crate::order::{Key, are_listed, are_numbered, comes_before, key_of};
-use crate::parts::part_at;
+use crate::order::{are_in, are_listed, are_numbered};
+use crate::steps::{Stage, are_done};
 use network_check::Effect;
+use network_routes::are_ordered;
 use std::alloc::{AllocError, Global};
 
-/// The key of the part with a number, if it does this, before those with the numbers `behind`; `numbered` says whether keys go by execution numbers.
-fn key_acting(
-    alloc: Global,
-    body: Body<'_>,
-    numbered: bool,
-    number: usize,
-    effect: Effect,
-    behind: &[usize],
-) -> Result<Option<Key>, AllocError>
-    ensures { IfOk result (λ key. IfSome key (λ k. numbered ≡ are_numbered (parts_of body.entry) → Acts body.entry number effect behind.now k)) }
+/// Whether the triggers have the memories from a number on, one after the other.
+fn have_memories(memory: usize, effects: &[Effect]) -> bool
+    ensures { IsTrue result → have_memories memory effects.now ≡ true }
 {
-    let Some(part) = part_at(body, number) else {
-        return Ok(None);
+    let [effect, rest @ ..] = effects else {
+        return true;
     };
-    if !is_done(alloc, body, part, effect)? || !lands(body, part.inside, effect, behind) {
-        return Ok(None);
-    }
-    key_of(alloc, body.document, numbered, part, number)
-}
-
-/// Whether a key is behind that of the part before it, if there is one.
-fn is_behind(before: Option<Key>, key: Key) -> bool
-    ensures { result ≡ is_behind before key }
-{
-    match before {
-        Some(before) => comes_before(before, key),
-        None => true,
+    let Effect::Trigger { memory: found, .. } = effect else {
+        return have_memories(memory, rest);
+    };
+    match memory.checked_add(1) {
+        Some(next) => *found == memory && have_memories(next, rest),
+        None => false,
     }
 }
 
-/// Whether the parts with these numbers do this, one after the other in the order of their keys.
-fn are_done(
+/// Whether all parts do this, in this order.
+fn are_in_order(
     alloc: Global,
     body: Body<'_>,
-    numbered: bool,
-    before: Option<Key>,
+    order: &[usize],
+    effects: &[Effect],
+    leading: Leading<'_>,
+) -> Result<bool, AllocError>
+    ensures { IfOk result (λ are. IsTrue are → AreDone body.entry [] None order.now effects.now) }
+{
+    if !are_ordered(body.network, leading.firsts) {
+        return Ok(false);
+    }
+    let stage = Stage {
+        numbered: are_numbered(body.document, body.parts),
+        at: 0,
+        before: None,
+        last: None,
+    };
+    Ok(are_done(alloc, body, leading, stage, order, effects)?)
+}
+
+/// Whether all that act, and all that are looked at for an edge, are in an order, with the memories of their triggers.
+fn are_all(
+    alloc: Global,
+    body: Body<'_>,
     order: &[usize],
     effects: &[Effect],
 ) -> Result<bool, AllocError>
-    ensures { IfOk result (λ are. IsTrue are → numbered ≡ are_numbered (parts_of body.entry) → AreDone body.entry before order.now effects.now) }
+    ensures memories { IfOk result (λ are. IsTrue are → have_memories 0 effects.now ≡ true) }
+    ensures acting { IfOk result (λ are. IsTrue are → are_in order.now (acting_from body.entry 0 (parts_of body.entry)) ≡ true) }
+    ensures edges { IfOk result (λ are. IsTrue are → are_in order.now body.entry.edges.now ≡ true) }
 {
-    match (order, effects) {
-        ([], []) => Ok(true),
-        ([number, order @ ..], [effect, effects @ ..]) => {
-            let Some(key) = key_acting(alloc, body, numbered, *number, *effect, order)? else {
-                return Ok(false);
-            };
-            if !is_behind(before, key) {
-                return Ok(false);
-            }
-            Ok(are_done(alloc, body, numbered, Some(key), order, effects)?)
-        }
-        _ => Ok(false),
-    }
+    Ok(
+        have_memories(0, effects)
+            && are_in(order, body.edges)
+            && are_listed(alloc, body, body.parts, 0, order)?,
+    )
 }
 
 /// Whether the parts of a body are the elements of its network, and all of them that act do this: the part with the first number of `order` the
-/// first effect, and so on. `false` says nothing.
+/// first effect, and so on. A part with an edge is there with its trigger. `false` says nothing.
 ///
 /// # Errors
 ///
@@ -81,13 +81,13 @@ pub fn is_body(
     body: Body<'_>,
     order: &[usize],
     effects: &[Effect],
+    leading: Leading<'_>,
 ) -> Result<bool, AllocError>
     ensures { IfOk result (λ is. IsTrue is → IsBody body.entry order.now effects.now) }
 {
-    let numbered = are_numbered(body.document, body.parts);
     Ok(
-        are_parts(alloc, body, body.parts, body.network.elements)?
-            && are_listed(body.document, body.parts, 0, order)
-            && are_done(alloc, body, numbered, None, order, effects)?,
+        are_parts(alloc, body, 0, body.parts, body.network.elements)?
+            && are_all(alloc, body, order, effects)?
+            && are_in_order(alloc, body, order, effects, leading)?,
     )
 }

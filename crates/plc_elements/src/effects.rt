@@ -1,19 +1,21 @@
 //! What the parts of a body do by their power.
 
-ghost use Rattle.std.specs.Prelude.{◌≡◌, Bool, IfOk, IsTrue, Some, true};
+ghost use Rattle.std.specs.Prelude.{◌≡◌, Bool, IfOk, IsTrue, Some, codes, true};
 ghost use Rattle.std.specs.List.{list_all};
 ghost use Rattle.xml_parts.specs.Parts.{items_from, part_of};
 ghost use Rattle.network_check.specs.declared.effect.CoilKind.TheVariants.{Plain};
 ghost use Rattle.network_check.specs.declared.effect.Effect.TheVariants as effect;
-ghost use Rattle.plc_elements.specs.Effects.{IsCall, IsCoil, IsDone, IsWritten, inputs_in, is_known, is_plain, outputs_in};
-ghost use Rattle.plc_elements.specs.Words.{coil_kind, has_no_edge, negation};
+ghost use Rattle.plc_elements.specs.Effects.{IsCall, IsCoil, IsDone, IsTriggerCall, IsWritten, inputs_in, is_known, outputs_in};
+ghost use Rattle.plc_elements.specs.Words.{coil_kind, is_plain, negation, says_none};
 
 use crate::connections::is_left;
-use crate::inputs::{BlockPlace, Role, are_known, are_plain, inputs_in, is_input, outputs_in};
-use crate::names::{Body, block_at, is_variable};
+use crate::inputs::{
+    BlockPlace, Callee, Role, are_known, are_plain, inputs_in, is_input, outputs_in,
+};
+use crate::names::{Body, block_at, is_trigger_block, is_variable};
 use crate::parts::is_named;
 use crate::presets::is_preset_of;
-use crate::words::{coil_kind, has_no_edge, negation, word_in};
+use crate::words::{coil_kind, is_plain, negation, says_none, word_in};
 use network_check::{CoilKind, Effect};
 use network_power::Links;
 use std::alloc::{AllocError, Global};
@@ -36,7 +38,7 @@ struct Call {
 }
 
 /// Whether two kinds of coils are one.
-fn is_same_kind(first: CoilKind, second: CoilKind) -> bool
+pub(crate) fn is_same_kind(first: CoilKind, second: CoilKind) -> bool
     ensures { IsTrue result → first ≡ second }
 {
     match (first, second) {
@@ -50,7 +52,7 @@ fn is_same_kind(first: CoilKind, second: CoilKind) -> bool
 
 /// Whether an element is a coil of this kind.
 fn is_of_kind(body: Body<'_>, place: usize, kind: CoilKind) -> bool
-    ensures { IsTrue result → (negated : Bool) × (has_no_edge (items_from body.entry.document.now place) ≡ true)
+    ensures { IsTrue result → (negated : Bool) × (says_none (codes "edge") (items_from body.entry.document.now place) ≡ true)
         × (negation (items_from body.entry.document.now place) ≡ Some negated)
         × (coil_kind negated (items_from body.entry.document.now place) ≡ Some kind) }
 {
@@ -58,7 +60,7 @@ fn is_of_kind(body: Body<'_>, place: usize, kind: CoilKind) -> bool
         return false;
     };
     match coil_kind(body.document, place, negated) {
-        Some(found) => has_no_edge(body.document, place) && is_same_kind(found, kind),
+        Some(found) => says_none(body.document, place, b"edge") && is_same_kind(found, kind),
         None => false,
     }
 }
@@ -87,7 +89,7 @@ fn is_written(
 {
     let word = word_in(alloc, body.document, place, b"expression")?;
     Ok(
-        negation(body.document, place) == Some(false)
+        is_plain(body.document, place)
             && is_variable(body.names, variable, word)
             && is_left(alloc, body, left, place)?,
     )
@@ -95,12 +97,15 @@ fn is_written(
 
 /// Whether the inputs and outputs of a block are those that it has, none of them negated.
 fn has_known_pins(alloc: Global, body: Body<'_>, block: BlockPlace) -> Result<bool, AllocError>
-    ensures known { IfOk result (λ has. IsTrue has → list_all (is_known block.kind) (inputs_in (items_from body.entry.document.now block.place)) ≡ true) }
+    ensures known { IfOk result (λ has. IsTrue has → list_all (is_known block.callee) (inputs_in (items_from body.entry.document.now block.place)) ≡ true) }
     ensures plain { IfOk result (λ has. IsTrue has → list_all is_plain (outputs_in (items_from body.entry.document.now block.place)) ≡ true) }
 {
     let inputs = inputs_in(alloc, body.document, block.place)?;
     let outputs = outputs_in(alloc, body.document, block.place)?;
-    Ok(are_plain(body.document, &outputs) && are_known(alloc, body.document, block.kind, &inputs)?)
+    Ok(
+        are_plain(body.document, &outputs)
+            && are_known(alloc, body.document, block.callee, &inputs)?,
+    )
 }
 
 /// Whether an element is this call.
@@ -111,19 +116,70 @@ fn is_call(alloc: Global, body: Body<'_>, place: usize, call: Call) -> Result<bo
         return Ok(false);
     };
     let block = BlockPlace {
-        kind: x.kind,
+        callee: Callee::Block(x.kind),
         place,
     };
     Ok(
         has_known_pins(alloc, body, block)?
             && is_input(alloc, body, block, Role::First, call.first)?
             && is_input(alloc, body, block, Role::Second, call.second)?
-            && is_preset_of(alloc, body, block, x.kind.traits().parameter, x.preset)?,
+            && is_preset_of(
+                alloc,
+                body,
+                place,
+                x.kind,
+                x.kind.traits().parameter,
+                x.preset,
+            )?,
     )
 }
 
+/// A call of a trigger.
+#[derive(Clone, Copy)]
+struct TriggerCall {
+    falling: bool,
+    output: usize,
+    left: Links,
+}
+
+/// Whether an element is this call of a trigger.
+fn is_trigger_call(
+    alloc: Global,
+    body: Body<'_>,
+    place: usize,
+    call: TriggerCall,
+) -> Result<bool, AllocError>
+    ensures { IfOk result (λ is. IsTrue is → IsTriggerCall body.entry (items_from body.entry.document.now place) call.falling call.output call.left) }
+{
+    if !is_trigger_block(body.document, body.names, place, call.falling, call.output) {
+        return Ok(false);
+    }
+    let block = BlockPlace {
+        callee: Callee::Trigger,
+        place,
+    };
+    Ok(has_known_pins(alloc, body, block)? && is_input(alloc, body, block, Role::First, call.left)?)
+}
+
+/// Whether a part is this call of a trigger, with a memory.
+#[tactic(auto, using(crate::specs::Effects::trigger))]
+fn does_trigger(
+    alloc: Global,
+    body: Body<'_>,
+    part: Part,
+    memory: usize,
+    call: TriggerCall,
+) -> Result<bool, AllocError>
+    ensures { IfOk result (λ does. IsTrue does → IsDone body.entry (part_of body.entry.document.now part).0 (part_of body.entry.document.now part).1 (effect.Trigger call.output memory call.falling call.left)) }
+{
+    if !is_named(body.document, part, b"block") {
+        return Ok(false);
+    }
+    Ok(is_trigger_call(alloc, body, part.inside, call)?)
+}
+
 /// Whether a kind of coils is the plain one.
-fn is_plain_kind(kind: CoilKind) -> bool
+pub(crate) fn is_plain_kind(kind: CoilKind) -> bool
     ensures { IsTrue result → kind ≡ Plain }
 {
     matches!(kind, CoilKind::Plain)
@@ -227,6 +283,18 @@ pub(crate) fn is_done(
         Effect::Return { left } => does_return(alloc, body, part, left),
         Effect::Jump { over, left } => does_jump(alloc, body, part, over, left),
         Effect::Label => Ok(is_label_part(body, part)),
-        Effect::Trigger { .. } => Ok(false),
+        Effect::Trigger {
+            output,
+            memory,
+            falling,
+            left,
+        } => {
+            let call = TriggerCall {
+                falling,
+                output,
+                left,
+            };
+            does_trigger(alloc, body, part, memory, call)
+        }
     }
 }

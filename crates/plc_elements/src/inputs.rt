@@ -5,11 +5,12 @@ ghost use Rattle.std.specs.List.{list_all, list_any};
 ghost use Rattle.diagram_declarations.specs.Name.{same_letters};
 ghost use Rattle.xml_parts.specs.Parts.{items_from};
 ghost use Rattle.plc_elements.specs.declared.inputs.Role.TheVariants.{First, Preset, Second};
-ghost use Rattle.plc_elements.specs.Effects.{IsInput, given, inputs_in, inputs_named, is_known, is_named, is_plain, outputs_in, words_of};
+ghost use Rattle.plc_elements.specs.Effects.{IsInput, given, inputs_in, inputs_named, is_known, is_named, outputs_in, words_of};
+ghost use Rattle.plc_elements.specs.Words.{is_plain};
 
 use crate::connections::are_connected;
 use crate::names::Body;
-use crate::words::{attribute_or, connections_in, has_no_edge, negation};
+use crate::words::{attribute_or, connections_in, is_plain};
 use diagram_declarations::{BlockKind, same_letters};
 use network_power::Links;
 use std::alloc::{AllocError, Global};
@@ -24,18 +25,28 @@ pub enum Role {
     Preset,
 }
 
+/// What is called: a trigger, or a block of a kind.
+#[derive(Clone, Copy)]
+pub enum Callee {
+    Trigger,
+    Block(BlockKind),
+}
+
 /// A block in a document.
 #[derive(Clone, Copy)]
 pub(crate) struct BlockPlace {
-    pub kind: BlockKind,
+    pub callee: Callee,
     /// The place behind its name.
     pub place: usize,
 }
 
 /// Whether a word is a name of the first input of a block.
-fn is_first(kind: BlockKind, word: &[u8]) -> bool
-    ensures { result ≡ list_any (same_letters word.now) (words_of kind First) }
+fn is_first(callee: Callee, word: &[u8]) -> bool
+    ensures { result ≡ list_any (same_letters word.now) (words_of callee First) }
 {
+    let Callee::Block(kind) = callee else {
+        return same_letters(word, b"CLK");
+    };
     match kind {
         BlockKind::Ctu => same_letters(word, b"CU"),
         BlockKind::Ctd => same_letters(word, b"CD"),
@@ -46,9 +57,12 @@ fn is_first(kind: BlockKind, word: &[u8]) -> bool
 }
 
 /// Whether a word is a name of the second input of a block.
-fn is_second(kind: BlockKind, word: &[u8]) -> bool
-    ensures { result ≡ list_any (same_letters word.now) (words_of kind Second) }
+fn is_second(callee: Callee, word: &[u8]) -> bool
+    ensures { result ≡ list_any (same_letters word.now) (words_of callee Second) }
 {
+    let Callee::Block(kind) = callee else {
+        return false;
+    };
     match kind {
         BlockKind::Ctu => same_letters(word, b"R"),
         BlockKind::Ctd => same_letters(word, b"LD"),
@@ -59,9 +73,12 @@ fn is_second(kind: BlockKind, word: &[u8]) -> bool
 }
 
 /// Whether a word is the name of the preset of a block.
-fn is_preset(kind: BlockKind, word: &[u8]) -> bool
-    ensures { result ≡ list_any (same_letters word.now) (words_of kind Preset) }
+fn is_preset(callee: Callee, word: &[u8]) -> bool
+    ensures { result ≡ list_any (same_letters word.now) (words_of callee Preset) }
 {
+    let Callee::Block(kind) = callee else {
+        return false;
+    };
     match kind {
         BlockKind::Ctu | BlockKind::Ctd => same_letters(word, b"PV"),
         BlockKind::Sr | BlockKind::Rs => false,
@@ -70,39 +87,32 @@ fn is_preset(kind: BlockKind, word: &[u8]) -> bool
 }
 
 /// Whether an input has a name of a role.
-fn is_named(document: &Document, kind: BlockKind, role: Role, input: usize) -> bool
-    ensures { result ≡ is_named kind role (items_from document.now input) }
+fn is_named(document: &Document, callee: Callee, role: Role, input: usize) -> bool
+    ensures { result ≡ is_named callee role (items_from document.now input) }
 {
     let word = attribute_or(document, input, b"formalParameter", b"");
     match role {
-        Role::First => is_first(kind, word),
-        Role::Second => is_second(kind, word),
-        Role::Preset => is_preset(kind, word),
+        Role::First => is_first(callee, word),
+        Role::Second => is_second(callee, word),
+        Role::Preset => is_preset(callee, word),
     }
-}
-
-/// Whether an input or an output passes the power on as it is.
-fn is_plain(document: &Document, place: usize) -> bool
-    ensures { result ≡ is_plain (items_from document.now place) }
-{
-    has_no_edge(document, place) && negation(document, place) == Some(false)
 }
 
 /// Whether an input is one of a block, or nothing is connected with it.
 fn is_known(
     alloc: Global,
     document: &Document,
-    kind: BlockKind,
+    callee: Callee,
     input: usize,
 ) -> Result<bool, AllocError>
-    ensures { IfOk result (λ is. is ≡ is_known kind (items_from document.now input)) }
+    ensures { IfOk result (λ is. is ≡ is_known callee (items_from document.now input)) }
 {
     let connections = connections_in(alloc, document, input)?;
     Ok(
         is_plain(document, input)
-            && (is_named(document, kind, Role::First, input)
-                || is_named(document, kind, Role::Second, input)
-                || is_named(document, kind, Role::Preset, input)
+            && (is_named(document, callee, Role::First, input)
+                || is_named(document, callee, Role::Second, input)
+                || is_named(document, callee, Role::Preset, input)
                 || connections.is_empty()),
     )
 }
@@ -111,15 +121,15 @@ fn is_known(
 pub(crate) fn are_known(
     alloc: Global,
     document: &Document,
-    kind: BlockKind,
+    callee: Callee,
     inputs: &[usize],
 ) -> Result<bool, AllocError>
-    ensures { IfOk result (λ are. are ≡ list_all (is_known kind) (map (items_from document.now) inputs.now)) }
+    ensures { IfOk result (λ are. are ≡ list_all (is_known callee) (map (items_from document.now) inputs.now)) }
 {
     match inputs {
         [] => Ok(true),
         [input, rest @ ..] => Ok(
-            is_known(alloc, document, kind, *input)? && are_known(alloc, document, kind, rest)?,
+            is_known(alloc, document, callee, *input)? && are_known(alloc, document, callee, rest)?,
         ),
     }
 }
@@ -166,15 +176,15 @@ pub(crate) fn outputs_in(
 fn add_named(
     document: &Document,
     inputs: &[usize],
-    kind: BlockKind,
+    callee: Callee,
     role: Role,
     found: &mut Vec<usize>,
 ) -> Result<(), AllocError>
     ensures { IfOk result (λ _. map (items_from document.now) found.new.items
-        ≡ map (items_from document.now) found.old.items ++ inputs_named kind role (map (items_from document.now) inputs.now)) }
+        ≡ map (items_from document.now) found.old.items ++ inputs_named callee role (map (items_from document.now) inputs.now)) }
 {
     for input in inputs {
-        if is_named(document, kind, role, *input) {
+        if is_named(document, callee, role, *input) {
             found.push(*input)?;
         }
     }
@@ -188,11 +198,11 @@ pub(crate) fn given(
     block: BlockPlace,
     role: Role,
 ) -> Result<Option<Vec<usize>>, AllocError>
-    ensures { IfOk result (λ found. option_map (λ places. map (items_from document.now) places.items) found ≡ given block.kind role (items_from document.now block.place)) }
+    ensures { IfOk result (λ found. option_map (λ places. map (items_from document.now) places.items) found ≡ given block.callee role (items_from document.now block.place)) }
 {
     let inputs = inputs_in(alloc, document, block.place)?;
     let mut found: Vec<usize> = Vec::new(alloc);
-    add_named(document, &inputs, block.kind, role, &mut found)?;
+    add_named(document, &inputs, block.callee, role, &mut found)?;
     match found.as_slice() {
         [] => Ok(Some(Vec::new(alloc))),
         [input] => Ok(Some(connections_in(alloc, document, *input)?)),
@@ -208,10 +218,10 @@ pub(crate) fn is_input(
     role: Role,
     left: Links,
 ) -> Result<bool, AllocError>
-    ensures { IfOk result (λ is. IsTrue is → IsInput body.entry (items_from body.entry.document.now block.place) block.kind role left) }
+    ensures { IfOk result (λ is. IsTrue is → IsInput body.entry (items_from body.entry.document.now block.place) block.callee role left) }
 {
     match given(alloc, body.document, block, role)? {
-        Some(connections) => Ok(are_connected(body, left, &connections)),
+        Some(connections) => Ok(are_connected(alloc, body, left, &connections)?),
         None => Ok(false),
     }
 }

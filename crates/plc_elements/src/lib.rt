@@ -1,8 +1,10 @@
 //! Bodies of ladder diagram in PLCopen XML (IEC 61131-10), compared with networks and what their elements do.
 #![tactic(auto)]
 
+mod added;
 mod body;
 mod connections;
+mod edges;
 mod effects;
 mod elements;
 mod inputs;
@@ -11,9 +13,12 @@ mod names;
 mod order;
 mod parts;
 mod presets;
+mod steps;
+mod unknown;
 mod words;
 
 pub use body::is_body;
-pub use inputs::Role;
+pub use edges::{Leading, falling_at};
+pub use inputs::{Callee, Role};
 pub use names::{Body, Names};
 pub use order::Key;

@@ -1,11 +1,15 @@
 //! The order in which the parts of a body act.
 
-ghost use Rattle.std.specs.Prelude.{◌≡◌, IfOk, IfSome, IsTrue, map, nat_eq, true};
-ghost use Rattle.std.specs.List.{list_all, list_any};
+ghost use Rattle.std.specs.Prelude.{◌≡◌, ◌&&◌, IfOk, IfSome, IsTrue, map, not, true};
+ghost use Rattle.std.specs.List.{list_any};
 ghost use Rattle.std.specs.Str.{bytes_eq};
 ghost use Rattle.xml_parts.specs.Parts.{items_from, part_of};
+ghost use Rattle.plc_elements.specs.Body.{are_in};
+ghost use Rattle.plc_elements.specs.Unknown.{is_left_out};
 ghost use Rattle.plc_elements.specs.Order.{IsKey, acting, acting_from, acts, are_numbered, comes_before, is_numeral, is_ordered, number_word, place_word};
 
+use crate::names::Body;
+use crate::unknown::is_left_out;
 use crate::words::attribute_or;
 use diagram_declarations::{digits_len, number};
 use std::alloc::{AllocError, Global};
@@ -51,19 +55,46 @@ fn is_ordered(document: &Document, part: Part) -> bool
     bytes_at(&document.bytes, part.name) == b"label".as_slice() || is_acting(document, part)
 }
 
-/// Whether all parts in the order of those that act, counted from a number on, are in a list.
-pub(crate) fn are_listed(document: &Document, parts: &[Part], from: usize, order: &[usize]) -> bool
-    ensures { IsTrue result → list_all (λ number. list_any (nat_eq number) order.now) (acting_from from (map (part_of document.now) parts.now)) ≡ true }
+/// Whether a part is in the order of those that act, and isn't left out.
+fn is_due(alloc: Global, body: Body<'_>, part: Part) -> Result<bool, AllocError>
+    ensures { IfOk result (λ is. is ≡ (is_ordered (part_of body.entry.document.now part) && not (is_left_out body.entry (part_of body.entry.document.now part)))) }
+{
+    if !is_ordered(body.document, part) {
+        return Ok(false);
+    }
+    let is_out = is_left_out(alloc, body, part)?;
+    Ok(!is_out)
+}
+
+/// Whether all parts in the order of those that act, counted from a number on, are in a list, but for those that are left out.
+pub(crate) fn are_listed(
+    alloc: Global,
+    body: Body<'_>,
+    parts: &[Part],
+    from: usize,
+    order: &[usize],
+) -> Result<bool, AllocError>
+    ensures { IfOk result (λ are. IsTrue are → are_in order.now (acting_from body.entry from (map (part_of body.entry.document.now) parts.now)) ≡ true) }
 {
     let [part, rest @ ..] = parts else {
-        return true;
+        return Ok(true);
     };
-    if is_ordered(document, *part) && !order.contains(&from) {
-        return false;
+    if is_due(alloc, body, *part)? && !order.contains(&from) {
+        return Ok(false);
     }
     match from.checked_add(1) {
-        Some(next) => are_listed(document, rest, next, order),
-        None => false,
+        Some(next) => are_listed(alloc, body, rest, next, order),
+        None => Ok(false),
+    }
+}
+
+/// Whether all of some numbers are in a list.
+pub(crate) fn are_in(order: &[usize], numbers: &[usize]) -> bool
+    ensures { IsTrue result → are_in order.now numbers.now ≡ true }
+{
+    match numbers {
+        [] => true,
+        [number, rest @ ..] => order.contains(number) && are_in(order, rest),
     }
 }
 

@@ -7,12 +7,12 @@ ghost use Rattle.xml_parts.specs.Parts.{items_from};
 ghost use Rattle.plc_elements.specs.Effects.{IsLiteral, IsPresetOf};
 
 use crate::connections::referred;
-use crate::inputs::{BlockPlace, Role, given};
+use crate::inputs::{BlockPlace, Callee, Role, given};
 use crate::names::Body;
 use crate::parts::{is_named, part_at};
 use crate::words::{negation, word_in};
 use diagram_declarations::limits::{LARGEST_COUNT, MOST_DIGITS};
-use diagram_declarations::{Parameter, digits_len, number, read_time};
+use diagram_declarations::{BlockKind, Parameter, digits_len, number, read_time};
 use std::alloc::{AllocError, Global};
 
 /// The number of a word of 1 to 5 digits that a counter can count to.
@@ -75,14 +75,19 @@ fn is_literal(
 pub(crate) fn is_preset_of(
     alloc: Global,
     body: Body<'_>,
-    block: BlockPlace,
+    place: usize,
+    kind: BlockKind,
     parameter: Option<Parameter>,
     value: u32,
 ) -> Result<bool, AllocError>
-    ensures { IfOk result (λ is. IsTrue is → IsPresetOf body.entry (items_from body.entry.document.now block.place) block.kind parameter value) }
+    ensures { IfOk result (λ is. IsTrue is → IsPresetOf body.entry (items_from body.entry.document.now place) kind parameter value) }
 {
     let Some(parameter) = parameter else {
         return Ok(true);
+    };
+    let block = BlockPlace {
+        callee: Callee::Block(kind),
+        place,
     };
     let Some(connections) = given(alloc, body.document, block, Role::Preset)? else {
         return Ok(false);

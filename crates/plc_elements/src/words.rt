@@ -2,7 +2,7 @@
 
 ghost use Rattle.std.specs.Prelude.{◌≡◌, IfOk, IsTrue, map};
 ghost use Rattle.xml_parts.specs.Parts.{items_from};
-ghost use Rattle.plc_elements.specs.Words.{attribute_or, coil_kind, connections_in, has_no_edge, negation, word_in};
+ghost use Rattle.plc_elements.specs.Words.{attribute_or, coil_kind, connections_in, falling_in, is_plain, negation, says_none, word_in};
 
 use network_check::CoilKind;
 use std::alloc::{AllocError, Global};
@@ -50,11 +50,34 @@ pub(crate) fn negation(document: &Document, place: usize) -> Option<bool>
     }
 }
 
-/// Whether an element acts by the power itself, and by no edge of it.
-pub(crate) fn has_no_edge(document: &Document, place: usize) -> bool
-    ensures { result ≡ has_no_edge (items_from document.now place) }
+/// Whether an attribute of an element is left out, or says that it has none of this.
+pub(crate) fn says_none(document: &Document, place: usize, name: &[u8]) -> bool
+    ensures { result ≡ says_none name.now (items_from document.now place) }
 {
-    attribute_or(document, place, b"edge", b"none") == b"none".as_slice()
+    attribute_or(document, place, name, b"none") == b"none".as_slice()
+}
+
+/// Whether an element passes power on as it is: it isn't negated, and has no edge and no storage.
+pub(crate) fn is_plain(document: &Document, place: usize) -> bool
+    ensures { result ≡ is_plain (items_from document.now place) }
+{
+    says_none(document, place, b"edge")
+        && says_none(document, place, b"storage")
+        && negation(document, place) == Some(false)
+}
+
+/// Whether the edge that an element acts by is the falling one; None where it has no edge.
+pub(crate) fn falling_in(document: &Document, place: usize) -> Option<bool>
+    ensures { result ≡ falling_in (items_from document.now place) }
+{
+    let word = attribute_or(document, place, b"edge", b"none");
+    if word == b"rising".as_slice() {
+        Some(false)
+    } else if word == b"falling".as_slice() {
+        Some(true)
+    } else {
+        None
+    }
 }
 
 /// The kind of a coil that is negated or not; None where there is no such coil.

@@ -1,5 +1,5 @@
 -- A ladder program exported as a project in PLCopen XML (IEC 61131-10).
-use Rattle.std.specs.Prelude.{ℕ, List, Option, None, Some}
+use Rattle.std.specs.Prelude.{ℕ, false, List, Option, None, Some}
 use Rattle.diagram_program.specs.Program.{Drawing}
 use Rattle.st_program.specs.declared.program.StProgram.{StProgram}
 use Rattle.export_program.specs.declared.form.AddressForm.{AddressForm}
@@ -19,7 +19,7 @@ pub record IsUnitOf (name : List ℕ) (document : List Item) (text : List ℕ) (
   pub interface : Option (List Item)
   pub body : List Item
   pub is : IsOnlyUnit name document interface body
-  pub does : DoesUnit interface body text program
+  pub does : DoesUnit false interface body text program
 
 -- The bytes are a project in PLCopen XML. There is an export of the drawing in Structured Text that declares what the only unit of the project
 -- declares, and whose statements do what its body does.

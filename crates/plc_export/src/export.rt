@@ -34,7 +34,7 @@ fn document_of(alloc: Global, text: &[u8]) -> Result<Document, ExportFault>
 fn elements_of(alloc: Global, document: &Document) -> Result<PlcText, ExportFault>
     ensures refused { IfErr result IsOfText }
 {
-    match read_plc(alloc, document, None) {
+    match read_plc(alloc, document, None, false) {
         Ok(plc) => Ok(plc),
         Err(PlcFault::Memory) => Err(ExportFault::Memory),
         Err(PlcFault::TooLarge) => Err(ExportFault::TooLarge),
@@ -74,6 +74,7 @@ fn is_unit_of(
         alloc,
         document,
         unit,
+        false,
         &exported.text,
         &plc,
         &exported.program,

@@ -12,20 +12,38 @@ use plc_units::{Unit, does_unit, unit_in};
 use std::alloc::Global;
 use xml_document::Document;
 
+/// Which program of a project is asked for, and how it is read.
+#[derive(Clone, Copy)]
+pub struct UnitChoice<'n> {
+    /// Its name; the only program where there is none.
+    pub name: Option<&'n [u8]>,
+    /// Whether outputs of blocks that aren't known are inputs, which may have any value.
+    pub is_open: bool,
+}
+
 /// Draws the unit that is asked for, by its text in Structured Text.
 fn drawing_of(
     alloc: Global,
     document: &Document,
     unit: Unit,
+    is_open: bool,
     plc: &PlcText,
 ) -> Result<Vec<u8>, PlcImportFault>
-    ensures { IfOk result (λ text. IsDrawnUnit (option_map (items_from document.now) unit.interface) (items_from document.now unit.body) text.items) }
+    ensures { IfOk result (λ text. IsDrawnUnit is_open (option_map (items_from document.now) unit.interface) (items_from document.now unit.body) text.items) }
 {
     let drawn = match draw(alloc, &plc.text) {
         Ok(drawn) => drawn,
         Err(fault) => return Err(undrawn(fault)),
     };
-    if does_unit(alloc, document, unit, &plc.text, plc, &drawn.program)? {
+    if does_unit(
+        alloc,
+        document,
+        unit,
+        is_open,
+        &plc.text,
+        plc,
+        &drawn.program,
+    )? {
         Ok(drawn.bytes)
     } else {
         Err(PlcImportFault::NotFaithful)
@@ -33,7 +51,7 @@ fn drawing_of(
 }
 
 /// Draws a program of a project in PLCopen XML as a ladder program that does what its body does: the unit with a name, or the only one that is a
-/// program.
+/// program. If it may be open, outputs of blocks that aren't known become inputs of the program.
 ///
 /// # Errors
 ///
@@ -42,17 +60,17 @@ fn drawing_of(
 pub fn import_plc(
     alloc: Global,
     document: &Document,
-    name: Option<&[u8]>,
+    choice: UnitChoice<'_>,
 ) -> Result<Vec<u8>, PlcImportFault>
-    ensures { IfOk result (λ text. IsImported (items_of document.now) (option_map (λ word. word.now) name.entry) text.items) }
+    ensures { IfOk result (λ text. IsImported (items_of document.now) (option_map (λ word. word.now) choice.entry.name) choice.entry.is_open text.items) }
 {
-    let plc = match read_plc(alloc, document, name) {
+    let plc = match read_plc(alloc, document, choice.name, choice.is_open) {
         Ok(plc) => plc,
         Err(PlcFault::Memory) => return Err(PlcImportFault::Memory),
         Err(fault) => return Err(PlcImportFault::Unit(fault)),
     };
-    match unit_in(alloc, document, name)? {
-        Some(unit) => drawing_of(alloc, document, unit, &plc),
+    match unit_in(alloc, document, choice.name)? {
+        Some(unit) => drawing_of(alloc, document, unit, choice.is_open, &plc),
         None => Err(PlcImportFault::NotFaithful),
     }
 }

@@ -5,4 +5,4 @@ mod fault;
 mod import;
 
 pub use fault::PlcImportFault;
-pub use import::import_plc;
+pub use import::{UnitChoice, import_plc};

@@ -1,14 +1,16 @@
 //! What the elements of a diagram do.
 
-use crate::blocks::{Input, input_of, inputs_of, is_literal};
+use crate::blocks::{Input, input_called, inputs_of, is_preset};
 use crate::diagram::{Diagram, UNCONNECTED, refused};
 use crate::fault::{PlcFault, PlcReason};
 use crate::node::{Node, Role, is_negated};
-use crate::symbols::Instance;
+use crate::symbols::{Instance, Trigger};
 use crate::xml::{child, is_named, is_none, is_on, is_word, number_of, parts_in};
+use diagram_declarations::BlockKind;
 use io_table::Table;
 use network_check::{CoilKind, Effect};
 use network_power::{Element, Links};
+use std::alloc::Global;
 use xml_document::{Document, Span};
 use xml_parts::{Part, attribute};
 
@@ -38,14 +40,48 @@ pub(crate) struct Action {
     pub deed: Deed,
 }
 
+/// What acts in a diagram.
+#[derive(Drop)]
+pub(crate) struct Actions {
+    pub items: Table<Action>,
+    /// All that act have a number in the order, also those that are left out.
+    pub are_numbered: bool,
+}
+
+/// What is on the left of what acts: of a block of its two inputs.
+#[derive(Clone, Copy)]
+pub(crate) struct Lefts {
+    pub first: Links,
+    pub second: Links,
+}
+
 /// What is connected with the inputs of a block.
 #[derive(Clone, Copy)]
 struct Arguments {
-    instance: Instance,
+    /// None where the block is a trigger.
+    kind: Option<BlockKind>,
     number: Span,
     first: Option<Links>,
     second: Option<Links>,
     preset: Option<usize>,
+}
+
+/// What is on the left of what has an effect.
+pub(crate) fn lefts_of(effect: Effect) -> Lefts {
+    match effect {
+        Effect::Coil { left, .. }
+        | Effect::Trigger { left, .. }
+        | Effect::Return { left }
+        | Effect::Jump { left, .. } => Lefts {
+            first: left,
+            second: UNCONNECTED,
+        },
+        Effect::Call { first, second, .. } => Lefts { first, second },
+        Effect::Label => Lefts {
+            first: UNCONNECTED,
+            second: UNCONNECTED,
+        },
+    }
 }
 
 /// Where an element stands.
@@ -69,7 +105,7 @@ fn turn_of(document: &Document, node: Node, place: usize) -> Result<Turn, PlcRea
 
 /// The kind of a coil.
 fn coil_kind(document: &Document, node: Node) -> Result<CoilKind, PlcReason> {
-    let negated = is_negated(document, node.role, node.inside)?;
+    let negated = is_negated(document, node)?;
     let storage = match attribute(document, node.inside, b"storage") {
         Some(word) => word,
         None => b"none",
@@ -125,10 +161,19 @@ fn is_connected(document: &Document, place: usize) -> bool {
     }
 }
 
+/// Whether a block can have a preset.
+fn has_preset(kind: Option<BlockKind>, word: &[u8]) -> bool {
+    match kind {
+        Some(kind) => is_preset(kind, word),
+        None => false,
+    }
+}
+
 /// The element that has the preset of a block, where one is connected.
 fn preset_in(
     diagram: &mut Diagram<'_>,
     place: usize,
+    kind: Option<BlockKind>,
     number: Span,
 ) -> Result<Option<usize>, PlcFault> {
     let links = diagram.add_left(place, number)?;
@@ -143,7 +188,7 @@ fn preset_in(
         Some(node)
             if connected == 1
                 && node.role == Role::Read
-                && is_literal(diagram.word(node.inside, b"expression")) => { Ok(Some(id)) }
+                && has_preset(kind, diagram.word(node.inside, b"expression")) => { Ok(Some(id)) }
         _ => Err(refused(number, PlcReason::Preset)),
     }
 }
@@ -163,7 +208,7 @@ fn read_input(
         Some(word) => word,
         None => b"",
     };
-    match input_of(arguments.instance.kind, word) {
+    match input_called(arguments.kind, word) {
         Some(Input::First) if arguments.first.is_none() => {
             arguments.first = Some(diagram.add_left(place, number)?);
         }
@@ -171,7 +216,7 @@ fn read_input(
             arguments.second = Some(diagram.add_left(place, number)?);
         }
         Some(Input::Preset) if arguments.preset.is_none() => {
-            arguments.preset = preset_in(diagram, place, number)?;
+            arguments.preset = preset_in(diagram, place, arguments.kind, number)?;
         }
         None if !is_connected(document, place) => {}
         _ => return Err(refused(number, PlcReason::Formal)),
@@ -193,17 +238,27 @@ fn read_inputs(
     Ok(())
 }
 
-/// Reads what is connected with the inputs of a block.
-fn read_arguments(
+/// What is connected with the inputs of a block of a kind, or of a trigger.
+fn arguments_of(
     diagram: &mut Diagram<'_>,
     node: Node,
-    arguments: &mut Arguments,
-) -> Result<(), PlcFault> {
+    kind: Option<BlockKind>,
+) -> Result<Arguments, PlcFault> {
+    let mut arguments = Arguments {
+        kind,
+        number: node.number,
+        first: None,
+        second: None,
+        preset: None,
+    };
     let Some(inputs) = child(diagram.document, node.inside, b"inputVariables") else {
-        return Ok(());
+        return Ok(arguments);
     };
     let parts = parts_in(diagram.alloc, diagram.document, inputs)?;
-    read_inputs(diagram, &parts, arguments)
+    match read_inputs(diagram, &parts, &mut arguments) {
+        Ok(()) => Ok(arguments),
+        Err(fault) => Err(fault),
+    }
 }
 
 /// Refuses a block with outputs that it doesn't have.
@@ -224,20 +279,9 @@ fn check_outputs(diagram: &Diagram<'_>, node: Node) -> Result<(), PlcFault> {
     }
 }
 
-/// What a block does.
-fn call_of(diagram: &mut Diagram<'_>, node: Node) -> Result<Deed, PlcFault> {
-    let Some(instance) = node.instance else {
-        return Err(refused(node.number, PlcReason::Block));
-    };
-    check_outputs(diagram, node)?;
-    let mut arguments = Arguments {
-        instance,
-        number: node.number,
-        first: None,
-        second: None,
-        preset: None,
-    };
-    read_arguments(diagram, node, &mut arguments)?;
+/// What a block does that is called.
+fn call_of(diagram: &mut Diagram<'_>, node: Node, instance: Instance) -> Result<Deed, PlcFault> {
+    let arguments = arguments_of(diagram, node, Some(instance.kind))?;
     if arguments.preset.is_none() && !inputs_of(instance.kind).preset.is_empty() {
         return Err(refused(node.number, PlcReason::NoPreset));
     }
@@ -251,7 +295,31 @@ fn call_of(diagram: &mut Diagram<'_>, node: Node) -> Result<Deed, PlcFault> {
     })
 }
 
-/// What a coil does.
+/// What a block does that is a trigger. Its memory is counted later.
+fn trigger_of(diagram: &mut Diagram<'_>, node: Node, trigger: Trigger) -> Result<Deed, PlcFault> {
+    let arguments = arguments_of(diagram, node, None)?;
+    Ok(Deed {
+        effect: Effect::Trigger {
+            output: trigger.number,
+            memory: 0,
+            falling: trigger.edge.is_falling(),
+            left: arguments.first.unwrap_or(UNCONNECTED),
+        },
+        preset: None,
+    })
+}
+
+/// What a block does.
+fn block_deed(diagram: &mut Diagram<'_>, node: Node) -> Result<Deed, PlcFault> {
+    check_outputs(diagram, node)?;
+    match (node.instance, node.trigger) {
+        (Some(instance), _) => call_of(diagram, node, instance),
+        (None, Some(trigger)) => trigger_of(diagram, node, trigger),
+        (None, None) => Err(refused(node.number, PlcReason::Block)),
+    }
+}
+
+/// What a coil does. One with an edge does so by the output of its trigger.
 fn coil_of(diagram: &Diagram<'_>, node: Node, id: usize) -> Result<Effect, PlcFault> {
     let kind = match coil_kind(diagram.document, node) {
         Ok(kind) => kind,
@@ -280,7 +348,7 @@ fn deed_of(diagram: &mut Diagram<'_>, node: Node, id: usize) -> Result<Option<De
         Role::Return => Effect::Return {
             left: diagram.add_left(node.inside, node.number)?,
         },
-        Role::Block => return Ok(Some(call_of(diagram, node)?)),
+        Role::Block => return Ok(Some(block_deed(diagram, node)?)),
         Role::Jump => Effect::Jump {
             over: 0,
             left: diagram.add_left(node.inside, node.number)?,
@@ -294,34 +362,69 @@ fn deed_of(diagram: &mut Diagram<'_>, node: Node, id: usize) -> Result<Option<De
     }))
 }
 
-/// Adds what an element does, if it does something.
-fn add_action(
-    diagram: &mut Diagram<'_>,
-    node: Node,
-    id: usize,
-    actions: &mut Table<Action>,
-) -> Result<(), PlcFault> {
-    let Some(deed) = deed_of(diagram, node, id)? else {
-        return Ok(());
-    };
-    match turn_of(diagram.document, node, id) {
-        Ok(turn) => {
-            actions.push(Action { turn, deed });
-            Ok(())
-        }
+/// Whether an element has a number in the order.
+fn is_numbered(document: &Document, node: Node) -> Result<bool, PlcFault> {
+    match number_of(document, node.inside, b"executionOrderId") {
+        Ok(execution) => Ok(execution != 0),
         Err(reason) => Err(refused(node.number, reason)),
     }
 }
 
-/// Adds what the elements of a diagram do.
-pub(crate) fn add_actions(
-    diagram: &mut Diagram<'_>,
-    actions: &mut Table<Action>,
-) -> Result<(), PlcFault> {
-    for id in 0..diagram.nodes.len() {
-        if let Some(node) = diagram.nodes.at(id) {
-            add_action(diagram, node, id, actions)?;
+impl Actions {
+    /// Nothing acts.
+    pub(crate) fn new(alloc: Global) -> Actions {
+        Actions {
+            items: Table::new(alloc),
+            are_numbered: true,
         }
     }
-    Ok(())
+
+    /// Looks whether an element has a number in the order, if it acts; a label needs none.
+    fn look_at_number(&mut self, document: &Document, node: Node) -> Result<(), PlcFault> {
+        let acts = matches!(
+            node.role,
+            Role::Coil
+                | Role::Block
+                | Role::Write
+                | Role::Return
+                | Role::Jump
+                | Role::Unknown
+                | Role::Unwritten
+        );
+        if acts && !is_numbered(document, node)? {
+            self.are_numbered = false;
+        }
+        Ok(())
+    }
+
+    /// Adds what an element does, if it does something.
+    fn add_one(
+        &mut self,
+        diagram: &mut Diagram<'_>,
+        node: Node,
+        id: usize,
+    ) -> Result<(), PlcFault> {
+        let found = deed_of(diagram, node, id)?;
+        self.look_at_number(diagram.document, node)?;
+        let Some(deed) = found else {
+            return Ok(());
+        };
+        match turn_of(diagram.document, node, id) {
+            Ok(turn) => {
+                self.items.push(Action { turn, deed });
+                Ok(())
+            }
+            Err(reason) => Err(refused(node.number, reason)),
+        }
+    }
+
+    /// Adds what the elements of a diagram do.
+    pub(crate) fn add(&mut self, diagram: &mut Diagram<'_>) -> Result<(), PlcFault> {
+        for id in 0..diagram.nodes.len() {
+            if let Some(node) = diagram.nodes.at(id) {
+                self.add_one(diagram, node, id)?;
+            }
+        }
+        Ok(())
+    }
 }

@@ -1,6 +1,14 @@
 //! The names of blocks, of their inputs and of their outputs.
 
-use diagram_declarations::{BlockKind, Output, Parameter, same_letters};
+use diagram_declarations::limits::{LARGEST_COUNT, MOST_DIGITS};
+use diagram_declarations::{
+    BlockKind, Output, Parameter, digits_len, number, read_time, same_letters,
+};
+
+/// How the input of a trigger is spelled, and its output.
+pub(crate) const CLOCK: &[u8] = b"CLK";
+
+pub(crate) const TRIGGERED: &[u8] = b"Q";
 
 /// What an input of a block is for.
 #[derive(Clone, Copy)]
@@ -80,8 +88,25 @@ fn plain_of(kind: BlockKind, word: &[u8]) -> Option<Input> {
     }
 }
 
+/// The input of a trigger that a word names.
+fn clock_of(word: &[u8]) -> Option<Input> {
+    if same_letters(word, CLOCK) {
+        Some(Input::First)
+    } else {
+        None
+    }
+}
+
+/// The input of a block, or of a trigger where there is no kind, that a word names.
+pub(crate) fn input_called(kind: Option<BlockKind>, word: &[u8]) -> Option<Input> {
+    match kind {
+        Some(kind) => input_of(kind, word),
+        None => clock_of(word),
+    }
+}
+
 /// The input of a block that a word names.
-pub(crate) fn input_of(kind: BlockKind, word: &[u8]) -> Option<Input> {
+fn input_of(kind: BlockKind, word: &[u8]) -> Option<Input> {
     let inputs = inputs_of(kind);
     if word.is_empty() {
         return None;
@@ -98,10 +123,10 @@ pub(crate) fn input_of(kind: BlockKind, word: &[u8]) -> Option<Input> {
     plain_of(kind, word)
 }
 
-/// Whether a word is made of letters, digits, underscores and some other characters.
-fn is_made_of(word: &[u8], others: &[u8]) -> bool {
+/// Whether a word is made of letters, digits and underscores.
+fn is_made_of_letters(word: &[u8]) -> bool {
     for byte in word {
-        if !byte.is_ascii_alphanumeric() && *byte != b'_' && !others.contains(byte) {
+        if !byte.is_ascii_alphanumeric() && *byte != b'_' {
             return false;
         }
     }
@@ -111,25 +136,24 @@ fn is_made_of(word: &[u8], others: &[u8]) -> bool {
 /// Whether a word has the form of a name.
 pub(crate) fn is_name(word: &[u8]) -> bool {
     match word {
-        [first, ..] => !first.is_ascii_digit() && is_made_of(word, b""),
+        [first, ..] => !first.is_ascii_digit() && is_made_of_letters(word),
         [] => false,
     }
 }
 
-/// Whether a word has the form of an address.
-pub(crate) fn is_address(word: &[u8]) -> bool {
-    match word {
-        [b'%', rest @ ..] => !rest.is_empty() && is_made_of(rest, b"."),
-        _ => false,
+/// Whether a word is a number that a counter can count to.
+fn is_count(word: &[u8]) -> bool {
+    if word.is_empty() || word.len() > MOST_DIGITS || digits_len(word) < word.len() {
+        return false;
     }
+    number(word) <= u64::from(LARGEST_COUNT)
 }
 
-/// Whether a word has the form of a duration or of a number.
-pub(crate) fn is_literal(word: &[u8]) -> bool {
-    match word {
-        [first, ..] => {
-            (first.is_ascii_digit() || word.contains(&b'#')) && is_made_of(word, b"#.")
-        }
-        [] => false,
+/// Whether a word is a preset that a block can have.
+pub(crate) fn is_preset(kind: BlockKind, word: &[u8]) -> bool {
+    match kind.traits().parameter {
+        Some(Parameter::Time) => read_time(word).is_some(),
+        Some(Parameter::Count) => is_count(word),
+        None => false,
     }
 }

@@ -1,6 +1,6 @@
 //! Expressions that have the power on the left of something.
 
-use crate::blocks::output_of;
+use crate::blocks::{TRIGGERED, output_of};
 use crate::diagram::{Diagram, refused};
 use crate::fault::{PlcFault, PlcReason};
 use crate::text::Text;
@@ -154,7 +154,13 @@ impl<'d> Diagram<'d> {
     /// Writes an operand.
     fn write_operand(&self, out: &mut Text, operand: Operand) {
         match operand {
-            Operand::Variable(number) => out.add(self.symbols.bool_name(number)),
+            Operand::Variable(number) => {
+                out.add(self.symbols.variable_name(number));
+                if self.symbols.is_trigger(number) {
+                    out.add(b".");
+                    out.add(TRIGGERED);
+                }
+            }
             Operand::Output(number) => {
                 out.add(self.symbols.block_name(number));
                 out.add(b".");

@@ -55,6 +55,8 @@ pub enum PlcReason {
     Retain,
     #[error("an address that can't be read")]
     Address,
+    #[error("an address that another variable has")]
+    AddressTwice,
     #[error("an initial value that can't be read")]
     Initial,
     #[error("a name that isn't declared")]
@@ -75,7 +77,7 @@ pub enum PlcReason {
     Block,
     #[error("an input or an output of a block that isn't known, or twice")]
     Formal,
-    #[error("a preset that is no literal")]
+    #[error("a preset that is no literal, or one that the block can't have")]
     Preset,
     #[error("a block with no preset")]
     NoPreset,

@@ -1,6 +1,6 @@
 //! Jumps, and the arms of the `IF`s that they become.
 
-use crate::action::{Action, Deed};
+use crate::action::Action;
 use crate::diagram::{Diagram, refused};
 use crate::fault::{PlcFault, PlcReason};
 use crate::node::{Node, Role};
@@ -73,28 +73,52 @@ impl<'d> Diagram<'d> {
         target.checked_sub(place)?.checked_sub(1)
     }
 
-    /// How many of those that act each jump leads over, in their order; 0 for what is no jump.
+    /// What acts at a place of the order: a jump with how many of those that act it leads over, and a trigger with the number of its memory.
+    fn settled(
+        &self,
+        place: usize,
+        action: Action,
+        ordered: &[Action],
+        memory: usize,
+    ) -> Result<Action, PlcFault> {
+        let mut settled = action;
+        match action.deed.effect {
+            Effect::Jump { left, .. } => {
+                let Some(over) = self.over(place, action, ordered) else {
+                    return Err(refused(self.number(action.turn.place), PlcReason::Jump));
+                };
+                settled.deed.effect = Effect::Jump { over, left };
+            }
+            Effect::Trigger {
+                output,
+                falling,
+                left,
+                ..
+            } => {
+                settled.deed.effect = Effect::Trigger {
+                    output,
+                    memory,
+                    falling,
+                    left,
+                };
+            }
+            _ => {}
+        }
+        Ok(settled)
+    }
+
+    /// Adds what acts in its order, with what each jump leads over, and with the numbers of the memories, counted from 0.
     pub(crate) fn add_landed(
         &self,
         ordered: &[Action],
         landed: &mut Table<Action>,
     ) -> Result<(), PlcFault> {
+        let mut memory: usize = 0;
         for (place, action) in ordered.iter().enumerate() {
-            let Effect::Jump { left, .. } = action.deed.effect else {
-                landed.push(*action);
-                continue;
-            };
-            let Some(over) = self.over(place, *action, ordered) else {
-                return Err(refused(self.number(action.turn.place), PlcReason::Jump));
-            };
-            let deed = Deed {
-                effect: Effect::Jump { over, left },
-                preset: None,
-            };
-            landed.push(Action {
-                turn: action.turn,
-                deed,
-            });
+            landed.push(self.settled(place, *action, ordered, memory)?);
+            if matches!(action.deed.effect, Effect::Trigger { .. }) {
+                memory = memory.saturating_add(1);
+            }
         }
         Ok(())
     }

@@ -6,11 +6,16 @@
 #![tactic(auto)]
 
 mod action;
+mod address;
 mod blocks;
 mod diagram;
+mod edge;
+mod edges;
 mod expression;
 mod fault;
 mod jumps;
+mod made;
+mod marks;
 mod node;
 mod order;
 mod pous;

@@ -1,7 +1,8 @@
 //! The elements of a diagram, as the document has them.
 
+use crate::edge::Edge;
 use crate::fault::PlcReason;
-use crate::symbols::Instance;
+use crate::symbols::{Instance, Trigger};
 use crate::xml::{is_none, is_on};
 use xml_document::{Document, Span};
 
@@ -17,6 +18,10 @@ pub(crate) enum Role {
     Return,
     Jump,
     Label,
+    /// A block that isn't known: its outputs may have any value.
+    Unknown,
+    /// It writes what the text doesn't have, and is left out.
+    Unwritten,
     /// It has no power, and does nothing.
     Still,
 }
@@ -37,6 +42,10 @@ pub(crate) struct Node {
     pub number: Span,
     /// The block that it is.
     pub instance: Option<Instance>,
+    /// The trigger that it calls, where it is a block.
+    pub trigger: Option<Trigger>,
+    /// The edge of its power that a coil acts by, or of its variable that a contact lets power through by.
+    pub edge: Option<Edge>,
 }
 
 /// The elements that are known.
@@ -105,16 +114,33 @@ pub(crate) fn role_of(name: &[u8]) -> Option<Role> {
     None
 }
 
-/// Whether an element is negated, where it can be. It has no edge, and no storage but a coil.
-pub(crate) fn is_negated(document: &Document, role: Role, place: usize) -> Result<bool, PlcReason> {
-    let negated = is_on(document, place, b"negated")?;
-    if !is_none(document, place, b"edge") {
-        return Err(PlcReason::Edge);
+/// Whether an element is left out, so that nothing is asked of its power.
+fn is_left_out(role: Role) -> bool {
+    matches!(role, Role::Unknown | Role::Unwritten)
+}
+
+/// Whether an element has the edge of a contact or a coil, or none.
+fn check_edge(document: &Document, node: Node) -> Result<(), PlcReason> {
+    let has_edge = matches!(node.role, Role::Contact | Role::Coil);
+    if has_edge || is_none(document, node.inside, b"edge") {
+        Ok(())
+    } else {
+        Err(PlcReason::Edge)
     }
-    if negated && !matches!(role, Role::Contact | Role::Coil) {
+}
+
+/// Whether an element is negated, where it can be. It has no storage but a coil, and none of both with an edge.
+pub(crate) fn is_negated(document: &Document, node: Node) -> Result<bool, PlcReason> {
+    if is_left_out(node.role) {
+        return Ok(false);
+    }
+    let negated = is_on(document, node.inside, b"negated")?;
+    check_edge(document, node)?;
+    let is_plain = node.edge.is_none();
+    if negated && !(is_plain && matches!(node.role, Role::Contact | Role::Coil)) {
         return Err(PlcReason::Modifier);
     }
-    if !is_none(document, place, b"storage") && !matches!(role, Role::Coil) {
+    if !is_none(document, node.inside, b"storage") && !(is_plain && node.role == Role::Coil) {
         return Err(PlcReason::Modifier);
     }
     Ok(negated)

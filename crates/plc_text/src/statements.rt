@@ -1,16 +1,22 @@
 //! The text of a program.
 
 use crate::action::{Action, Deed};
-use crate::blocks::inputs_of;
+use crate::blocks::{CLOCK, inputs_of};
 use crate::diagram::{Diagram, refused};
 use crate::fault::{PlcFault, PlcReason};
 use crate::jumps::Opens;
+use crate::made::{Made, Purpose};
 use crate::symbols::{List, Sort, Variable};
 use crate::text::Text;
 use network_check::{CoilKind, Effect};
 use network_power::Links;
-use xml_document::Span;
 use xml_parts::bytes_at;
+
+/// What is said where inputs stand for outputs of blocks that aren't known.
+const OPENED: &[u8] =
+    b"(* Opened: inputs of any value stand for outputs of blocks that aren't known.
+   The program can do all that the project can, and perhaps more. *)
+";
 
 impl<'d> Diagram<'d> {
     /// Writes the declaration of a variable.
@@ -29,6 +35,7 @@ impl<'d> Diagram<'d> {
                 out.add(b"BOOL");
                 out.add_if(initial, b" := TRUE");
             }
+            Sort::Trigger(trigger) => out.add(trigger.edge.word()),
             Sort::Block(instance) => out.add(instance.kind.traits().word),
             Sort::Other => {}
         }
@@ -62,9 +69,44 @@ impl<'d> Diagram<'d> {
         out.add(b"END_VAR\n");
     }
 
+    /// Writes the declaration of a variable that the interface doesn't declare.
+    fn write_made(&self, out: &mut Text, made: Made) {
+        out.add(b"  ");
+        out.add(bytes_at(self.symbols.spellings.items(), made.name));
+        out.add(b" : ");
+        match made.purpose {
+            Purpose::Trigger(edge) => out.add(edge.word()),
+            Purpose::Input => out.add(b"BOOL"),
+        }
+        out.add(b";\n");
+    }
+
+    /// Writes the declarations of the triggers of edges, if there are any.
+    fn write_triggers(&self, out: &mut Text) {
+        out.add_if(self.edges.len() > 0, b"VAR\n");
+        for made in self.symbols.made.items() {
+            if matches!(made.purpose, Purpose::Trigger(_)) {
+                self.write_made(out, *made);
+            }
+        }
+        out.add_if(self.edges.len() > 0, b"END_VAR\n");
+    }
+
+    /// Writes the declarations of the inputs of any value, if there are any.
+    fn write_inputs(&self, out: &mut Text) {
+        out.add_if(self.opened.len() > 0, b"VAR_INPUT\n");
+        for made in self.symbols.made.items() {
+            if matches!(made.purpose, Purpose::Input) {
+                self.write_made(out, *made);
+            }
+        }
+        out.add_if(self.opened.len() > 0, b"END_VAR\n");
+        out.add_if(self.opened.len() > 0, OPENED);
+    }
+
     /// Writes the name of a program and its declarations.
-    fn write_head(&self, out: &mut Text, name: Span) {
-        let name = bytes_at(&self.document.bytes, name);
+    fn write_head(&self, out: &mut Text) {
+        let name = self.symbols.program_name();
         out.add(b"PROGRAM ");
         out.add(name);
         out.add_if(self.symbols.find(name).is_some(), b"_1");
@@ -72,6 +114,8 @@ impl<'d> Diagram<'d> {
         for list in self.symbols.lists.items() {
             self.write_list(out, *list);
         }
+        self.write_triggers(out);
+        self.write_inputs(out);
         out.add(b"\n");
     }
 
@@ -83,7 +127,7 @@ impl<'d> Diagram<'d> {
         inverse: bool,
         left: Links,
     ) -> Result<(), PlcFault> {
-        out.add(self.symbols.bool_name(variable));
+        out.add(self.symbols.variable_name(variable));
         out.add(b" := ");
         out.add_if(inverse, b"NOT (");
         self.write_power(out, left)?;
@@ -103,7 +147,7 @@ impl<'d> Diagram<'d> {
         out.add(b"IF ");
         self.write_power(out, left)?;
         out.add(b" THEN ");
-        out.add(self.symbols.bool_name(variable));
+        out.add(self.symbols.variable_name(variable));
         out.add(if on { b" := TRUE" } else { b" := FALSE" });
         out.add(b"; END_IF;\n");
         Ok(())
@@ -160,6 +204,14 @@ impl<'d> Diagram<'d> {
         Ok(())
     }
 
+    /// Writes the call of a trigger.
+    fn write_trigger(&self, out: &mut Text, output: usize, left: Links) -> Result<(), PlcFault> {
+        out.add(self.symbols.variable_name(output));
+        self.write_argument(out, b"(", CLOCK, left)?;
+        out.add(b");\n");
+        Ok(())
+    }
+
     /// Writes an `IF` with a return.
     fn write_return(&self, out: &mut Text, left: Links) -> Result<(), PlcFault> {
         out.add(b"IF ");
@@ -187,8 +239,9 @@ impl<'d> Diagram<'d> {
                 second,
             } => self.write_call(out, instance, first, second, deed.preset),
             Effect::Return { left } => self.write_return(out, left),
-            // No element is a trigger; a jump and a label are what is around others.
-            Effect::Trigger { .. } | Effect::Jump { .. } | Effect::Label => Ok(()),
+            Effect::Trigger { output, left, .. } => self.write_trigger(out, output, left),
+            // A jump and a label are what is around others.
+            Effect::Jump { .. } | Effect::Label => Ok(()),
         }
     }
 
@@ -216,10 +269,9 @@ impl<'d> Diagram<'d> {
         &self,
         out: &mut Text,
         opens: &mut Opens,
-        name: Span,
         ordered: &[Action],
     ) -> Result<(), PlcFault> {
-        self.write_head(out, name);
+        self.write_head(out);
         for (place, action) in ordered.iter().enumerate() {
             self.write_action(out, opens, place, *action)?;
         }

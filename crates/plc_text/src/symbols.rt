@@ -1,9 +1,12 @@
 //! The variables and the blocks of a program.
 
-use crate::blocks::{block_of, is_address, is_name, output_of};
+use crate::address::address_of;
+use crate::blocks::{TRIGGERED, block_of, is_name, output_of};
+use crate::edge::{Edge, edge_of};
 use crate::fault::{PlcFault, PlcReason};
+use crate::made::Made;
 use crate::xml::{child, first_in, is_named, is_on, is_word, name_of, parts_in, value_of};
-use diagram_declarations::{BlockKind, same_letters};
+use diagram_declarations::{Address, BlockKind, same_letters};
 use io_table::Table;
 use st_expression::Operand;
 use std::alloc::Global;
@@ -20,11 +23,19 @@ pub(crate) struct Instance {
     pub kind: BlockKind,
 }
 
+/// A trigger, with the number of its output among the variables.
+#[derive(Clone, Copy)]
+pub(crate) struct Trigger {
+    pub number: usize,
+    pub edge: Edge,
+}
+
 /// What a name is declared as.
 #[derive(Clone, Copy)]
 pub(crate) enum Sort {
-    /// A BOOL, by its number among them, and whether it begins as on.
+    /// A BOOL, by its number among the variables, and whether it begins as on.
     Bool { number: usize, initial: bool },
+    Trigger(Trigger),
     Block(Instance),
     /// Something that the text doesn't have.
     Other,
@@ -36,6 +47,8 @@ pub(crate) struct Variable {
     pub name: Span,
     /// No bytes where there is none.
     pub address: Span,
+    /// The same where it is read.
+    pub location: Option<Address>,
     pub sort: Sort,
 }
 
@@ -55,15 +68,26 @@ struct Path<'a> {
     member: Option<&'a [u8]>,
 }
 
-/// What a program declares, in the order of the document.
+/// What a program declares, in the order of the document, and what its text declares besides.
 #[derive(Drop)]
 pub(crate) struct Symbols<'d> {
     document: &'d Document,
+    /// The name of the program.
+    pub program: Span,
     pub variables: Table<Variable>,
     pub lists: Table<List>,
-    /// The variables that are BOOLs, and those that are blocks.
-    pub bools: Table<usize>,
+    /// The variables that are BOOLs or triggers, and those that are blocks.
+    pub numbered: Table<usize>,
     pub blocks: Table<usize>,
+    /// Words of the diagram that nothing of the text may have for a name, up to a point.
+    foreign: Table<Span>,
+    /// The variables that the text declares besides. Their numbers go on behind those of the others.
+    pub made: Table<Made>,
+    /// Their names, one after the other.
+    pub spellings: Table<u8>,
+    /// The last numbers in the names of triggers.
+    pub last_rising: usize,
+    pub last_falling: usize,
 }
 
 /// The word that a list of variables begins with in the text, by its name in the document.
@@ -78,6 +102,14 @@ fn word_of(name: &[u8]) -> Option<&'static [u8]> {
         Some(b"VAR")
     } else {
         None
+    }
+}
+
+/// Whether a variable is one of the text, and has an address.
+fn is_at(variable: Variable, location: Address) -> bool {
+    match (variable.sort, variable.location) {
+        (Sort::Bool { .. }, Some(other)) => other == location,
+        _ => false,
     }
 }
 
@@ -110,26 +142,28 @@ fn initial_of(document: &Document, place: usize) -> Result<bool, PlcReason> {
     let Some(simple) = child(document, initial, b"simpleValue") else {
         return Err(PlcReason::Initial);
     };
-    let word = match attribute(document, simple, b"value") {
-        Some(word) => word,
-        None => b"",
+    let Some(word) = attribute(document, simple, b"value") else {
+        return Ok(false);
     };
     if same_letters(word, b"TRUE") || is_word(word, b"1") {
         return Ok(true);
     }
-    if word.is_empty() || same_letters(word, b"FALSE") || is_word(word, b"0") {
+    if same_letters(word, b"FALSE") || is_word(word, b"0") {
         Ok(false)
     } else {
         Err(PlcReason::Initial)
     }
 }
 
-/// The block that an element is the type of.
-fn derived_of(document: &Document, part: Part) -> Option<BlockKind> {
+/// The name of the type that an element is; no bytes where it has none.
+fn derived_of(document: &Document, part: Part) -> &[u8] {
     if !is_named(document, part, b"derived") {
-        return None;
+        return b"";
     }
-    block_of(attribute(document, part.inside, b"name")?)
+    match attribute(document, part.inside, b"name") {
+        Some(word) => word,
+        None => b"",
+    }
 }
 
 /// The first element in the type of a variable.
@@ -148,14 +182,20 @@ fn is_kept(document: &Document, place: usize) -> Result<bool, PlcReason> {
 }
 
 impl<'d> Symbols<'d> {
-    /// Nothing declared.
-    pub(crate) fn new(alloc: Global, document: &'d Document) -> Symbols<'d> {
+    /// Nothing declared in a program with a name.
+    pub(crate) fn new(alloc: Global, document: &'d Document, program: Span) -> Symbols<'d> {
         Symbols {
             document,
+            program,
             variables: Table::new(alloc),
             lists: Table::new(alloc),
-            bools: Table::new(alloc),
+            numbered: Table::new(alloc),
             blocks: Table::new(alloc),
+            foreign: Table::new(alloc),
+            made: Table::new(alloc),
+            spellings: Table::new(alloc),
+            last_rising: 0,
+            last_falling: 0,
         }
     }
 
@@ -163,8 +203,21 @@ impl<'d> Symbols<'d> {
     pub(crate) fn is_whole(&self) -> bool {
         self.variables.is_whole
             && self.lists.is_whole
-            && self.bools.is_whole
+            && self.numbered.is_whole
             && self.blocks.is_whole
+            && self.foreign.is_whole
+            && self.made.is_whole
+            && self.spellings.is_whole
+    }
+
+    /// How many BOOLs and triggers are declared.
+    pub(crate) fn declared(&self) -> usize {
+        self.numbered.len()
+    }
+
+    /// The name of the program.
+    pub(crate) fn program_name(&self) -> &'d [u8] {
+        bytes_at(&self.document.bytes, self.program)
     }
 
     /// What a name is declared as.
@@ -175,6 +228,25 @@ impl<'d> Symbols<'d> {
             }
         }
         None
+    }
+
+    /// Has nothing of the text have a word of the diagram, up to a point, for a name.
+    pub(crate) fn avoid(&mut self, word: Span) {
+        let path = path_of(bytes_at(&self.document.bytes, word));
+        self.foreign.push(Span {
+            start: word.start,
+            end: word.start.saturating_add(path.name.len()),
+        });
+    }
+
+    /// Whether nothing of the text may have a name.
+    pub(crate) fn is_foreign(&self, name: &[u8]) -> bool {
+        for word in self.foreign.items() {
+            if same_letters(bytes_at(&self.document.bytes, *word), name) {
+                return true;
+            }
+        }
+        false
     }
 
     /// The name of one of some variables.
@@ -188,9 +260,28 @@ impl<'d> Symbols<'d> {
         }
     }
 
-    /// The name of the BOOL with a number.
-    pub(crate) fn bool_name(&self, number: usize) -> &'d [u8] {
-        self.name(&self.bools, number)
+    /// The name of the BOOL or the trigger with a number.
+    pub(crate) fn variable_name(&self, number: usize) -> &[u8] {
+        match number.checked_sub(self.declared()) {
+            Some(place) => self.made_name(place),
+            None => self.name(&self.numbered, number),
+        }
+    }
+
+    /// The trigger that is declared with a number.
+    fn declared_trigger(&self, number: usize) -> Option<Trigger> {
+        match self.variables.at(self.numbered.at(number)?)?.sort {
+            Sort::Trigger(trigger) => Some(trigger),
+            _ => None,
+        }
+    }
+
+    /// Whether the variable with a number is the output of a trigger.
+    pub(crate) fn is_trigger(&self, number: usize) -> bool {
+        match number.checked_sub(self.declared()) {
+            Some(place) => self.is_made_trigger(place),
+            None => self.declared_trigger(number).is_some(),
+        }
     }
 
     /// The name of the block with a number.
@@ -206,11 +297,18 @@ impl<'d> Symbols<'d> {
         }
     }
 
-    /// The BOOL, or the output of a block, that a word names.
+    /// The BOOL, or the output of a trigger or of a block, that a word names.
     pub(crate) fn operand_of(&self, word: &[u8]) -> Result<Operand, PlcReason> {
         let path = path_of(word);
         match (self.find(path.name), path.member) {
             (Some(Sort::Bool { number, .. }), None) => Ok(Operand::Variable(number)),
+            (Some(Sort::Trigger(trigger)), Some(member)) => {
+                if same_letters(member, TRIGGERED) {
+                    Ok(Operand::Variable(trigger.number))
+                } else {
+                    Err(PlcReason::Formal)
+                }
+            }
             (Some(Sort::Block(instance)), Some(member)) => {
                 if same_letters(member, output_of(instance.kind)) {
                     Ok(Operand::Output(instance.number))
@@ -230,27 +328,42 @@ impl<'d> Symbols<'d> {
         };
         if is_named(self.document, part, b"BOOL") {
             return Ok(Sort::Bool {
-                number: self.bools.len(),
+                number: self.declared(),
                 initial: initial_of(self.document, place)?,
             });
         }
-        let Some(kind) = derived_of(self.document, part) else {
-            return Ok(Sort::Other);
-        };
+        let sort = self.derived_sort(derived_of(self.document, part));
+        if matches!(sort, Sort::Other) {
+            return Ok(sort);
+        }
         if child(self.document, place, b"initialValue").is_some() {
             return Err(PlcReason::Initial);
         }
-        Ok(Sort::Block(Instance {
-            number: self.blocks.len(),
-            kind,
-        }))
+        Ok(sort)
+    }
+
+    /// What a variable of a type with a name is declared as.
+    fn derived_sort(&self, word: &[u8]) -> Sort {
+        if let Some(edge) = edge_of(word) {
+            return Sort::Trigger(Trigger {
+                number: self.declared(),
+                edge,
+            });
+        }
+        match block_of(word) {
+            Some(kind) => Sort::Block(Instance {
+                number: self.blocks.len(),
+                kind,
+            }),
+            None => Sort::Other,
+        }
     }
 
     /// Adds a variable.
     fn add(&mut self, variable: Variable) {
         let number = self.variables.len();
         match variable.sort {
-            Sort::Bool { .. } => self.bools.push(number),
+            Sort::Bool { .. } | Sort::Trigger(_) => self.numbered.push(number),
             Sort::Block(_) => self.blocks.push(number),
             Sort::Other => {}
         }
@@ -258,7 +371,7 @@ impl<'d> Symbols<'d> {
     }
 
     /// Why the text can't have a variable, if it can't.
-    fn fault_of(&self, variable: Variable) -> Result<(), PlcReason> {
+    fn fault_of(&self, variable: Variable, is_input: bool) -> Result<(), PlcReason> {
         let name = bytes_at(&self.document.bytes, variable.name);
         if self.find(name).is_some() {
             return Err(PlcReason::Twice);
@@ -266,18 +379,39 @@ impl<'d> Symbols<'d> {
         if matches!(variable.sort, Sort::Other) {
             return Ok(());
         }
-        let address = bytes_at(&self.document.bytes, variable.address);
         if !is_name(name) {
             return Err(PlcReason::Name);
         }
-        if !address.is_empty() && !is_address(address) {
-            return Err(PlcReason::Address);
+        // No one but the program writes the output of a trigger.
+        if is_input && matches!(variable.sort, Sort::Trigger(_)) {
+            return Err(PlcReason::Type);
         }
-        Ok(())
+        let address = bytes_at(&self.document.bytes, variable.address);
+        if address.is_empty() {
+            return Ok(());
+        }
+        // A block and a trigger have no address.
+        match (variable.sort, variable.location) {
+            (Sort::Bool { .. }, Some(location)) if self.is_taken(location) => {
+                Err(PlcReason::AddressTwice)
+            }
+            (Sort::Bool { .. }, Some(_)) => Ok(()),
+            _ => Err(PlcReason::Address),
+        }
     }
 
-    /// Reads the variable inside an element.
-    fn read_variable(&mut self, place: usize) -> Result<(), PlcFault> {
+    /// Whether a variable of the text has an address.
+    fn is_taken(&self, location: Address) -> bool {
+        for variable in self.variables.items() {
+            if is_at(*variable, location) {
+                return true;
+            }
+        }
+        false
+    }
+
+    /// Reads the variable inside an element, which is in a list of inputs or in another one.
+    fn read_variable(&mut self, place: usize, is_input: bool) -> Result<(), PlcFault> {
         if self.variables.len() >= MOST_VARIABLES {
             return Err(PlcFault::TooLarge);
         }
@@ -286,23 +420,25 @@ impl<'d> Symbols<'d> {
             Ok(sort) => sort,
             Err(reason) => return Err(refused(name, reason)),
         };
+        let address = value_of(self.document, place, b"address");
         let variable = Variable {
             name,
-            address: value_of(self.document, place, b"address"),
+            address,
+            location: address_of(bytes_at(&self.document.bytes, address)),
             sort,
         };
-        if let Err(reason) = self.fault_of(variable) {
+        if let Err(reason) = self.fault_of(variable, is_input) {
             return Err(refused(name, reason));
         }
         self.add(variable);
         Ok(())
     }
 
-    /// Reads the variables of a list.
-    fn read_variables(&mut self, parts: &[Part]) -> Result<(), PlcFault> {
+    /// Reads the variables of a list, of inputs or of others.
+    fn read_variables(&mut self, parts: &[Part], is_input: bool) -> Result<(), PlcFault> {
         for part in parts {
             if is_named(self.document, *part, b"variable") {
-                self.read_variable(part.inside)?;
+                self.read_variable(part.inside, is_input)?;
             }
         }
         Ok(())
@@ -320,7 +456,7 @@ impl<'d> Symbols<'d> {
         }
         let from = self.variables.len();
         let parts = parts_in(alloc, self.document, part.inside)?;
-        let told = self.read_variables(&parts);
+        let told = self.read_variables(&parts, is_word(word, b"VAR_INPUT"));
         let to = self.variables.len();
         self.lists.push(List { word, from, to });
         told

@@ -87,6 +87,18 @@ pub(crate) fn value_of(document: &Document, place: usize, name: &[u8]) -> Span {
     NOTHING
 }
 
+/// Where the characters are that an element begins with; no bytes where there are none.
+pub(crate) fn characters_in(document: &Document, place: usize) -> Span {
+    for next in place..document.events.len() {
+        match document.events[next] {
+            Event::Characters { text } => return text,
+            Event::Attribute { .. } => {}
+            Event::Open { .. } | Event::Close => return NOTHING,
+        }
+    }
+    NOTHING
+}
+
 /// Whether an attribute is `true`; it is off where there is none.
 pub(crate) fn is_on(document: &Document, place: usize, name: &[u8]) -> Result<bool, PlcReason> {
     let Some(value) = attribute(document, place, name) else {
