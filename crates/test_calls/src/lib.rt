@@ -2,7 +2,6 @@
 #![tactic(auto)]
 
 mod causes;
-mod full;
 pub mod memory;
 mod order;
 mod runs;
