@@ -518,4 +518,5 @@ def refusals(parts, is_opened):
     wrong = [*called_late(order), *unwritable(order), *((jump, "jump") for jump in crossing(order, 0, len(order)))]
     wrong += [(other, "no_power") for other in connected if other.sort == "coil" and not other.left]
     wrong += [] if is_opened else unopened(parts)
+    wrong += [(other, word) for other in reached(order) if other.foreign and other.sort == "contact" for word in ("not_declared", "type")]
     return {f"fault N5 element {element.number} {word}\n" for element, word in wrong}
