@@ -45,6 +45,7 @@ test:
 	  "python3 tests/waves.py $(PROGRAM)" \
 	  "python3 tests/aliases.py $(PROGRAM)" \
 	  "python3 tests/filling.py $(PROGRAM)" \
+	  "python3 tests/assuming.py $(PROGRAM) 200" \
 	  "python3 tests/reaching.py $(PROGRAM)" \
 	  "python3 tests/differing.py $(PROGRAM) 600" \
 	  "python3 tests/judging.py $(PROGRAM) 300" \

@@ -35,7 +35,7 @@ _ladder() {
         return
     fi
     case $subcommand in
-        causes) options='--state --at --after --upto --limit --scans --for --every --grouped --terms --st --order --any --off --must --reachable --looks --runs --states --relevant --all-inputs --all-coils --progress --quiet --aliases --why --help' ;;
+        causes) options='--state --at --after --upto --limit --scans --for --every --assume --grouped --terms --st --order --any --off --must --reachable --looks --runs --states --relevant --all-inputs --all-coils --progress --quiet --aliases --why --help' ;;
         show) options='--state --at --number --html --stimulus --coil --all-inputs --aliases --why --help' ;;
         sim) options='--state --save --every --watch --watch-all --changes --expect --progress --vcd --aliases --why --help' ;;
         check) options='--warn --aliases --why --help' ;;
@@ -59,7 +59,7 @@ _ladder() {
                 ((number++))
                 every=1
                 ;;
-            --state | --new-state | --at | --after | --upto | --limit | --scans | --for | --every | --looks | --order | --number | --stimulus | --coil | --save | --watch | --expect | --states | --both | --gap | --control | --hal | --pou | --name) ((number++)) ;;
+            --state | --new-state | --at | --after | --upto | --limit | --scans | --for | --every | --assume | --looks | --order | --number | --stimulus | --coil | --save | --watch | --expect | --states | --both | --gap | --control | --hal | --pou | --name) ((number++)) ;;
             -*) ;;
             *)
                 ((place++))
@@ -71,7 +71,7 @@ _ladder() {
     case $before in
         --save) if [[ $subcommand == diff ]]; then mapfile -t COMPREPLY < <(compgen -d -- "$word"); else mapfile -t COMPREPLY < <(compgen -f -- "$word"); fi ;;
         --state | --new-state | --stimulus | --expect | --hal) mapfile -t COMPREPLY < <(compgen -f -- "$word") ;;
-        --at | --after | --upto | --limit | --scans | --for | --every | --looks | --number | --states | --gap | --pou | --name) ;;
+        --at | --after | --upto | --limit | --scans | --for | --every | --assume | --looks | --number | --states | --gap | --pou | --name) ;;
         --all-coils) mapfile -t COMPREPLY < <(compgen -d -- "$word") ;;
         --order) mapfile -t COMPREPLY < <(compgen -W 'auto given' -- "$word") ;;
         --control) mapfile -t COMPREPLY < <(compgen -W 'on' -- "$word") ;;

@@ -7,7 +7,7 @@ function __ladder_places
     for word in $words
         if test $due = 1
             set due 0
-        else if contains -- $word --state --new-state --at --after --upto --limit --scans --for --every --looks --order --number --stimulus --coil --all-coils --save --watch --expect --states --both --gap --control --hal --pou --name
+        else if contains -- $word --state --new-state --at --after --upto --limit --scans --for --every --assume --looks --order --number --stimulus --coil --all-coils --save --watch --expect --states --both --gap --control --hal --pou --name
             set due 1
         else if not string match -q -- '-*' $word
             echo $word
@@ -130,6 +130,7 @@ complete -c ladder -n '__ladder_at causes more 0' -l limit -x -d 'At most so man
 complete -c ladder -n '__ladder_at causes more 0' -l scans -x -d 'Over so many scans, with the inputs held'
 complete -c ladder -n '__ladder_at causes more 0' -l for -x -d 'Over all scans up to so many ms, with the inputs held'
 complete -c ladder -n '__ladder_at causes more 0' -l every -x -d 'With --scans or --for, the time between two in ms'
+complete -c ladder -n '__ladder_at causes more 0' -l assume -x -d 'Combinations with which this expression is true alone'
 complete -c ladder -n '__ladder_at causes more 0' -l grouped -d 'The causes in groups'
 complete -c ladder -n '__ladder_at causes more 0' -l terms -d 'Groups as terms'
 complete -c ladder -n '__ladder_at causes more 0' -l st -d 'Groups as a statement in Structured Text'

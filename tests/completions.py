@@ -32,6 +32,8 @@ LINES = [
     (["causes", "--all-coils"], "", []),
     (["causes", "--order"], "", ["auto", "given"]),
     (["causes", "--limit"], "", []),
+    (["causes", "--assume"], "", []),
+    (["causes", "--assume", "A", "--assume", "B", "machine.ld"], "", COILS),
     (["causes", "--states"], "", []),
     (["causes", "--any", "--runs", "--looks", "5", "machine.ld"], "", COILS),
     (["causes"], "mach", ["machine.ld"]),

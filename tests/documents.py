@@ -40,7 +40,7 @@ FAULTS = "docs/user/faults.md"
 SUBCOMMANDS = ["check", "causes", "show", "sim", "uses", "never", "reach", "diff", "draw", "export", "import", "explain"]
 # the faults that a text or a command can show, and those that have a section alone
 SHOWN = [f"V{number}" for number in range(1, 9)] + ["A1"] + [f"G{number}" for number in range(1, 16)]
-SHOWN += [f"C{number}" for number in range(1, 7)] + ["C8"] + [f"X{number}" for number in range(1, 7)] + [f"P{number}" for number in range(1, 7)] + [f"N{number}" for number in range(1, 6)] + ["E1", "E2", "usage"]
+SHOWN += [f"C{number}" for number in range(1, 7)] + ["C8", "C9"] + [f"X{number}" for number in range(1, 7)] + [f"P{number}" for number in range(1, 7)] + [f"N{number}" for number in range(1, 6)] + ["E1", "E2", "usage"]
 TOLD = ["V9", "C7", "S1", "X7", "P7", "P8", "N6", "N7", "E3", "E4"]
 # the folders whose paths are looked for
 FOLDERS = ["bench", "completions", "crates", "docs", "examples", "man", "share", "tests", "tools"]

@@ -20,7 +20,7 @@ BEGIN, END = "<!-- rules: begin -->\n", "<!-- rules: end -->\n"
 # a value for each option that has one, and the words that each subcommand needs; files are made below
 VALUES = {"at": "5", "after": "0", "upto": "1", "limit": "1", "scans": "2", "for": "20", "every": "10", "looks": "10", "states": "10",
           "state": "state.csv", "new-state": "state.csv", "all-coils": "folder", "save": "saved", "number": "0", "stimulus": "stimulus.csv",
-          "watch": "B", "gap": "5", "both": "Y", "hal": "x.hal"}
+          "watch": "B", "assume": "A", "gap": "5", "both": "Y", "hal": "x.hal"}
 PLACES = {"causes": ["p.ld"], "diff": ["p.ld", "q.ld"], "show": ["p.ld"], "sim": ["p.ld", "stimulus.csv"], "never": ["p.ld"], "reach": ["p.ld", "Y"],
           "export": ["p.ld"], "import": ["x.clp"]}
 PROGRAM_TEXT = """VAR

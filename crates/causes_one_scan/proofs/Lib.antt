@@ -15,3 +15,4 @@ mod Counting
 mod Sifting
 mod Assigning
 mod Deciding
+pub mod Assuming

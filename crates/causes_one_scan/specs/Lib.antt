@@ -17,3 +17,5 @@ pub mod Probes
 pub mod Sifting
 pub mod Relevant
 pub mod Looking
+pub mod Assuming
+pub mod Searching

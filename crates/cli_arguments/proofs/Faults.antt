@@ -1,5 +1,5 @@
 -- Why the arguments ask for no request.
-use Rattle.std.proofs.Common.{◌≡◌, ◌∙◌, ◌++◌, ℕ, Bool, true, false, List, [], ◌∷◌, Option, None, Some, ap, ap₂, arith, bytes_eq, codes, find, map, string_bytes, String, Global, ◌&&◌, get_or, inl, inr, is_some, option_and_then, option_map, refl, slice_get, subst, sym, unwrap_or}
+use Rattle.std.proofs.Common.{◌≡◌, ◌∙◌, ◌++◌, ℕ, Bool, true, false, List, [], ◌∷◌, Option, None, Some, ap, ap₂, arith, bytes_eq, codes, find, map, string_bytes, String, Global, ◌&&◌, get_or, inl, inr, is_some, option_and_then, option_map, refl, slice_get, subst, sym, unwrap_or, Vec}
 use Rattle.std.specs.List.{list_all}
 use Rattle.std.proofs.lemmas.Bool.{both_ways}
 use Rattle.std.proofs.lemmas.Slice.Eq.{bytes_eq-Decides}
@@ -314,9 +314,32 @@ no_groups_of_grouping rows one_state named grouped one none =
     only_of_one_state rows one_state named (λ list after upto h. h.0.0 grouped) (λ list scans every held h. not_several rows scans every one h.4)
     (λ list grouping h. none grouping (h.2, h.3, is_whole rows grouping.form list.limit h.8 h.9.2))
 
+-- the values of an option that was not given
+no_first : (vs : List Text) → slice_get vs 0 ≡ None → vs ≡ []
+no_first [] none = refl
+no_first (v ∷ vs) none = cc
+
+pub no_values : (id : Text) (rows : List Row) → first_of id rows ≡ None → unwrap_or (all_of id rows) [] ≡ []
+no_values id rows none = go (find (λ r. bytes_eq r.id id) rows) none
+  where
+    go : (o : Option Row) → option_and_then (λ (r : Row). slice_get r.values 0) o ≡ None → unwrap_or (option_map (λ (r : Row). r.values) o) [] ≡ []
+    go None e = refl
+    go (Some r) e = no_first r.values e
+
+pub no_value : (id : Text) (rows : List Row) → unwrap_or (all_of id rows) [] ≡ [] → first_of id rows ≡ None
+no_value id rows none = go (find (λ r. bytes_eq r.id id) rows) none
+  where
+    go : (o : Option Row) → unwrap_or (option_map (λ (r : Row). r.values) o) [] ≡ [] → option_and_then (λ (r : Row). slice_get r.values 0) o ≡ None
+    go None e = refl
+    go (Some r) e = ap (λ (vs : List Text). slice_get vs 0) e
+
+-- a vector without its elements
+abbrev emptied : {X Z : Type 0} → Vec X Z → Vec X Z
+emptied v = record { ptr = v.ptr; len = 0; cap = v.cap; alloc = v.alloc; items = []; ok = (refl, omega arith); small = v.small }
+
 -- what some state switches on
 pub no_possible_of_bound : (rows : List Row) → HasFlag (codes "any") rows → (IsOfAnyState rows → ⊥) → AsksNone (codes "causes") rows
-no_possible_of_bound rows any none = only_possible rows any (λ r h. none (h.5, (h.9, h.10, h.11, (h.12, (h.21, h.22))), h.18))
+no_possible_of_bound rows any none = only_possible rows any (λ r h. none (h.5, (h.9, h.10, h.11, (h.12, (h.21, h.22))), h.18, h.23))
 
 pub no_possible_of_grouping : (rows : List Row) → HasFlag (codes "any") rows → (HasForm Table rows → HasOrder Given rows → ⊥) → AsksNone (codes "causes") rows
 no_possible_of_grouping rows any none = only_possible rows any (λ r h. none h.7 h.8)
@@ -354,8 +377,8 @@ no_possible_of_list rows any none =
     only_possible rows any
     (λ r h.
     none
-    (record { state = start_of r.runs; moment = None; limit = r.limit; quiet = r.quiet; file = r.file; coil = r.coil; all_inputs = r.all_inputs; inputs = r.inputs })
-    (start_named rows r.runs h.4, h.5, h.13, h.14, h.15, h.16, h.17))
+    (record { state = start_of r.runs; moment = None; limit = r.limit; quiet = r.quiet; file = r.file; coil = r.coil; all_inputs = r.all_inputs; inputs = r.inputs; assumed = emptied r.inputs })
+    (start_named rows r.runs h.4, h.5, h.13, h.14, h.15, h.16, h.17, no_values (codes "assume") rows h.23))
 
 -- the inputs that matter
 only_relevant : (rows : List Row) → HasFlag (codes "relevant") rows
@@ -565,25 +588,6 @@ no_pace_of_scans rows none (Every every scans) h = none scans h.1
 pub no_pace_of_gap : (rows : List Row) → ((o : Option ℕ) → HasNumber (codes "gap") rows o → ⊥) → (p : Pace) → HasPace p rows → ⊥
 no_pace_of_gap rows none (AnyMoments gap) h = none gap h.2
 no_pace_of_gap rows none (Every every scans) h = none None h.2
-
--- the values of an option that was not given
-no_first : (vs : List Text) → slice_get vs 0 ≡ None → vs ≡ []
-no_first [] none = refl
-no_first (v ∷ vs) none = cc
-
-pub no_values : (id : Text) (rows : List Row) → first_of id rows ≡ None → unwrap_or (all_of id rows) [] ≡ []
-no_values id rows none = go (find (λ r. bytes_eq r.id id) rows) none
-  where
-    go : (o : Option Row) → option_and_then (λ (r : Row). slice_get r.values 0) o ≡ None → unwrap_or (option_map (λ (r : Row). r.values) o) [] ≡ []
-    go None e = refl
-    go (Some r) e = no_first r.values e
-
-pub no_value : (id : Text) (rows : List Row) → unwrap_or (all_of id rows) [] ≡ [] → first_of id rows ≡ None
-no_value id rows none = go (find (λ r. bytes_eq r.id id) rows) none
-  where
-    go : (o : Option Row) → unwrap_or (option_map (λ (r : Row). r.values) o) [] ≡ [] → option_and_then (λ (r : Row). slice_get r.values 0) o ≡ None
-    go None e = refl
-    go (Some r) e = ap (λ (vs : List Text). slice_get vs 0) e
 
 -- The names of the inputs, where one coil is meant and where each is.
 pub inputs_of_one : (rows : List Row) → first_of (codes "all-coils") rows ≡ None → input_texts rows ≡ unwrap_or (all_of (codes "inputs") rows) []

@@ -201,6 +201,10 @@ NamesWatch rows r = HasWatched rows r.all (map string_bytes r.names.items)
     × HasSwitch (codes "progress") rows r.progress
     × NamesTrace rows r.sim
 
+-- what is assumed: all values of the option in their order, and none where it isn't given
+abbrev pub HasAssumed : List Row → List Text → Type 0
+HasAssumed rows texts = unwrap_or (all_of (codes "assume") rows) [] ≡ texts
+
 -- what a request for a list of causes names
 abbrev pub NamesList : List Row → ListRequest → Type 0
 NamesList rows l = HasOption (codes "state") rows (option_map string_bytes l.state)
@@ -210,6 +214,7 @@ NamesList rows l = HasOption (codes "state") rows (option_map string_bytes l.sta
     × HasText (codes "file") rows (string_bytes l.file)
     × HasCoil rows (string_bytes l.coil)
     × HasInputs rows l.all_inputs (map string_bytes l.inputs.items)
+    × HasAssumed rows (map string_bytes l.assumed.items)
 
 -- No scan follows the first one.
 abbrev pub IsSingle : List Row → Type 0
@@ -244,7 +249,10 @@ HasPace (Every every scans) rows = HasNumber (codes "every") rows (Some every) �
 abbrev pub Asks : Text → List Row → Request → Type 0
 Asks name rows (Check file warns) = (name ≡ codes "check") × HasText (codes "file") rows (string_bytes file) × HasSwitch (codes "warn") rows warns
 Asks name rows (Causes list after upto) = (name ≡ codes "causes") × NamesCauses rows list after upto × (HasFlag (codes "progress") rows → ⊥)
-Asks name rows (Progress list after upto) = (name ≡ codes "causes") × NamesCauses rows list after upto × HasFlag (codes "progress") rows
+Asks name rows (Progress list after upto) = (name ≡ codes "causes")
+    × NamesCauses rows list after upto
+    × HasFlag (codes "progress") rows
+    × HasOption (codes "assume") rows None
 Asks name rows (Held list scans every grouped) = (name ≡ codes "causes")
     × HasSwitch (codes "grouped") rows grouped
     × HasForm Table rows
@@ -257,6 +265,7 @@ Asks name rows (Held list scans every grouped) = (name ≡ codes "causes")
     × (HasFlag (codes "relevant") rows → ⊥)
     × HasNumber (codes "upto") rows None
     × (HasFlag (codes "progress") rows → ⊥)
+    × HasOption (codes "assume") rows None
 Asks name rows (Groups list grouping) = (name ≡ codes "causes")
     × HasFlag (codes "grouped") rows
     × HasForm grouping.form rows
@@ -294,6 +303,7 @@ Asks name rows (Possible r) = (name ≡ codes "causes")
     × HasNumber (codes "looks") rows r.looks
     × HasNumber (codes "upto") rows None
     × (HasFlag (codes "progress") rows → ⊥)
+    × HasOption (codes "assume") rows None
 Asks name rows (Relevant list after grouping) = (name ≡ codes "causes")
     × HasFlag (codes "relevant") rows
     × HasInputs rows false []
@@ -303,6 +313,7 @@ Asks name rows (Relevant list after grouping) = (name ≡ codes "causes")
     × IsOfOneState rows
     × HasNumber (codes "upto") rows None
     × (HasFlag (codes "progress") rows → ⊥)
+    × HasOption (codes "assume") rows None
 Asks name rows (Never r) = (name ≡ codes "never")
     × HasOption (codes "state") rows (option_map string_bytes r.state)
     × HasExcluded r.excluded rows

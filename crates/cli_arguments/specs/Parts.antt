@@ -47,11 +47,12 @@ IsOfOneScan rows = HasNumber (codes "scans") rows None
     × HasNumber (codes "every") rows None
     × IsUncut rows
 
--- One scan of any state, at any moment, is asked for: no moment is given, and no inputs are found for one state.
+-- One scan of any state, at any moment, is asked for: no moment is given, no inputs are found for one state, and nothing is assumed of inputs.
 abbrev pub IsOfAnyState : List Row → Type 0
 IsOfAnyState rows = HasNumber (codes "at") rows None
     × IsOfOneScan rows
     × (HasFlag (codes "relevant") rows → ⊥)
+    × HasOption (codes "assume") rows None
 
 -- Nothing says which states count, whether every one is meant, how long a search is, or that runs are to come to a row.
 abbrev pub NamesNoStates : List Row → Type 0

@@ -9,7 +9,7 @@ ghost use Rattle.cli_arguments.specs.Faults.{UsageWhere};
 use crate::found::{is_given, is_set, number};
 use crate::grouping::{groups_request, refuse_grouping, relevant_groups};
 use crate::lasting::{held_request, lasting_of};
-use crate::parts::{is_counted, list_of, names_end};
+use crate::parts::{assumes, is_counted, list_of, names_end};
 use crate::request::{ListRequest, PossibleRequest, Request, WordFault};
 use crate::runs::runs_of;
 use crate::showing::lists_inputs;
@@ -81,7 +81,8 @@ fn possible_request(alloc: Global, found: &ArgMatches<'_>) -> Result<Request, Wo
     ensures ok { IfOk result (Asks (codes "causes") (rows_of (found_of found.now))) }
     ensures err { IfErr result (UsageWhere (AsksNone (codes "causes") (rows_of (found_of found.now)))) }
 {
-    // Any state is meant, at any moment, and one scan from it; the list has its rows from the first one on, and no line tells how far it is.
+    // Any state is meant, at any moment, and one scan from it; the list has its rows from the first one on, no line tells how far it is, and nothing is
+    // assumed.
     if is_bound(found) {
         return Err(WordFault::Usage);
     }
@@ -117,13 +118,13 @@ fn possible_request(alloc: Global, found: &ArgMatches<'_>) -> Result<Request, Wo
     }))
 }
 
-/// Whether something is asked for that doesn't go with `--any`: a moment, several scans, a part of a list, progress, or
-/// the inputs that matter.
+/// Whether something is asked for that doesn't go with `--any`: a moment, several scans, a part of a list, progress, the
+/// inputs that matter, or what is assumed of inputs.
 fn is_bound(found: &ArgMatches<'_>) -> bool
     ensures none { result ≡ false → IsOfAnyState (rows_of (found_of found.now)) }
     ensures some { result ≡ true → IsOfAnyState (rows_of (found_of found.now)) → ⊥ }
 {
-    is_given(found, "at") || is_counted(found) || is_set(found, "relevant")
+    is_given(found, "at") || is_counted(found) || is_set(found, "relevant") || assumes(found)
 }
 
 /// The request for the rows of one scan, all of them or a part, with or without progress.
@@ -140,10 +141,15 @@ fn list_request(alloc: Global, found: &ArgMatches<'_>) -> Result<Request, WordFa
     if is_given(found, "every") {
         return Err(WordFault::Usage);
     }
+    let told = is_set(found, "progress");
+    // No line tells how far a list is for which something is assumed.
+    if told && assumes(found) {
+        return Err(WordFault::Usage);
+    }
     let after = number(found, "after")?;
     let upto = number(found, "upto")?;
     let list = list_of(alloc, found)?;
-    if is_set(found, "progress") {
+    if told {
         return Ok(Request::Progress { list, after, upto });
     }
     Ok(Request::Causes { list, after, upto })
@@ -166,6 +172,10 @@ fn relevant_request(alloc: Global, found: &ArgMatches<'_>) -> Result<Request, Wo
     }
     // Their list has no part, and no line tells how far it is.
     if names_end(found) {
+        return Err(WordFault::Usage);
+    }
+    // What is assumed is of inputs that are listed.
+    if assumes(found) {
         return Err(WordFault::Usage);
     }
     if is_set(found, "grouped") {

@@ -2,7 +2,7 @@
 
 ghost use Rattle.std.specs.Prelude.{◌≡◌, [], true, false, codes, IfOk, IfErr, None, Some};
 ghost use Rattle.clap.specs.Words.{found_of, rows_of};
-ghost use Rattle.cli_arguments.specs.Asking.{Asks, AsksNone, HasFlag, HasForm, HasGrouping, HasInputs, HasOrder, IsNamed, IsOfOneState, IsSingle, IsWhole};
+ghost use Rattle.cli_arguments.specs.Asking.{Asks, AsksNone, HasFlag, HasForm, HasGrouping, HasInputs, HasOption, HasOrder, IsNamed, IsOfOneState, IsSingle, IsWhole};
 ghost use Rattle.cli_arguments.specs.Parts.{MayLast, NamesNoEnd};
 ghost use Rattle.cli_arguments.specs.Faults.{UsageWhere};
 
@@ -51,6 +51,7 @@ pub(crate) fn relevant_groups(alloc: Global, found: &ArgMatches<'_>) -> Result<R
     requires inputs { HasInputs (rows_of (found_of found.now)) false [] }
     requires single { IsSingle (rows_of (found_of found.now)) }
     requires whole { NamesNoEnd (rows_of (found_of found.now)) }
+    requires unassumed { HasOption (codes "assume") (rows_of (found_of found.now)) None }
     requires grouped { HasFlag (codes "grouped") (rows_of (found_of found.now)) }
     ensures ok { IfOk result (Asks (codes "causes") (rows_of (found_of found.now))) }
     ensures err { IfErr result (UsageWhere (AsksNone (codes "causes") (rows_of (found_of found.now)))) }

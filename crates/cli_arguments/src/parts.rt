@@ -2,7 +2,7 @@
 
 ghost use Rattle.std.specs.Prelude.{◌≡◌, ◌++◌, ℕ, Bool, List, codes, IfOk, IfErr, map, string_bytes, None, Option, Some, true, false};
 ghost use Rattle.clap.specs.Words.{Text, first_of, found_of, rows_of};
-ghost use Rattle.cli_arguments.specs.Asking.{HasCoil, HasEvery, HasInputs, NamesList, input_texts};
+ghost use Rattle.cli_arguments.specs.Asking.{HasCoil, HasEvery, HasInputs, HasOption, NamesList, input_texts};
 ghost use Rattle.cli_arguments.specs.Parts.{HasSources, NamesScan, IsUncut, NamesNoEnd, IsOfOneScan};
 ghost use Rattle.cli_arguments.specs.Faults.{UsageWhere};
 
@@ -23,7 +23,7 @@ pub(crate) fn every_of(found: &ArgMatches<'_>) -> Result<u64, WordFault>
     Ok(every.unwrap_or(EVERY))
 }
 
-/// The scan, the coil and the inputs that a list is asked of, with its limit of rows.
+/// The scan, the coil and the inputs that a list is asked of, what is assumed of inputs, and the limit of rows.
 pub(crate) fn list_of(alloc: Global, found: &ArgMatches<'_>) -> Result<ListRequest, WordFault>
     ensures ok { IfOk result (NamesList (rows_of (found_of found.now))) }
     ensures err { IfErr result (UsageWhere ((l : ListRequest) → NamesList (rows_of (found_of found.now)) l → ⊥)) }
@@ -31,6 +31,7 @@ pub(crate) fn list_of(alloc: Global, found: &ArgMatches<'_>) -> Result<ListReque
     let limit = number(found, "limit")?;
     let quiet = is_set(found, "quiet");
     let coil = coil_of(alloc, found)?;
+    let assumed = texts(alloc, found, "assume")?;
     let NamedScan {
         state,
         moment,
@@ -47,6 +48,7 @@ pub(crate) fn list_of(alloc: Global, found: &ArgMatches<'_>) -> Result<ListReque
         coil,
         all_inputs,
         inputs,
+        assumed,
     })
 }
 
@@ -161,6 +163,14 @@ pub(crate) fn names_end(found: &ArgMatches<'_>) -> bool
     ensures some { result ≡ true → NamesNoEnd (rows_of (found_of found.now)) → ⊥ }
 {
     is_given(found, "upto") || is_set(found, "progress")
+}
+
+/// Whether something is assumed of inputs.
+pub(crate) fn assumes(found: &ArgMatches<'_>) -> bool
+    ensures none { result ≡ false → HasOption (codes "assume") (rows_of (found_of found.now)) None }
+    ensures some { result ≡ true → HasOption (codes "assume") (rows_of (found_of found.now)) None → ⊥ }
+{
+    is_given(found, "assume")
 }
 
 /// Whether a list is to begin after a number, to end at one, or to report how far it is.

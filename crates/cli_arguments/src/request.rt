@@ -60,6 +60,8 @@ pub struct ListRequest {
     pub all_inputs: bool,
     /// The names of the listed inputs, the first one most significant.
     pub inputs: Vec<String>,
+    /// The expressions of the inputs that are assumed to be true, in the order given.
+    pub assumed: Vec<String>,
 }
 
 /// What a request for a list of any state names of runs, where it asks of each row whether one comes to it.

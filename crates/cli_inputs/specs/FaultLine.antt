@@ -16,7 +16,7 @@ use Rattle.cli_inputs.specs.declared.fault.TextKind.TheVariants as kind
 use Rattle.cli_inputs.specs.declared.fault.ToolFault.{ToolFault}
 use Rattle.cli_inputs.specs.declared.fault.ToolFault.TheVariants as fault
 
--- the reasons why there is no list of causes, C1 to C7; C8, of one over several scans, stands below
+-- the reasons why there is no list of causes, C1 to C7; C8, of one over several scans, and C9, of what is assumed, stand below
 abbrev pub cause_number : CauseFault → ℕ
 cause_number cause.MomentBack = 1
 cause_number cause.NotACoil = 2
@@ -56,6 +56,9 @@ fault_words (fault.Read k read.TooLong) = codes "X5 " ++ (kind_word k ++ codes "
 fault_words (fault.State (state.BadRow row)) = numbered (codes "X2 state row ") row
 fault_words (fault.Word number) = numbered (codes "X3 word ") number
 fault_words (fault.Watched number) = numbered (codes "X3 watch ") number
+fault_words (fault.Assumed number) = numbered (codes "X2 assume ") number
+fault_words (fault.NoInput number column) = codes "X3 assume " ++ (decimal number ++ numbered (codes " column ") column)
+fault_words fault.NeverTrue = codes "C9\n"
 fault_words fault.Both = codes "X3 both\n"
 fault_words (fault.Sim (sim.BadRow row)) = numbered (codes "X2 stimulus row ") row
 fault_words (fault.Sim (sim.UnknownName row)) = numbered (codes "X3 row ") row

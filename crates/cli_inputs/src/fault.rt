@@ -5,7 +5,7 @@ ghost use Rattle.io_text.specs.Buffer.{Sends};
 ghost use Rattle.io_text.specs.Log.{Puts};
 ghost use Rattle.cli_inputs.specs.FaultLine.{cause_number, fault_line, fault_words, kind_word, lead, line_by, numbered, var_words};
 ghost use Rattle.cli_inputs.specs.Explained.{cause_sentence};
-ghost use Rattle.cli_inputs.specs.declared.fault.ToolFault.TheVariants.{Read, Sim, State};
+ghost use Rattle.cli_inputs.specs.declared.fault.ToolFault.TheVariants.{NoInput, Read, Sim, State};
 
 use causes_query::CauseFault;
 use diagram_declarations::{TitleFault, VarFault, VarRule};
@@ -54,6 +54,15 @@ pub enum ToolFault {
     /// What is watched isn't declared; the names that are watched are counted from 1.
     #[error("name {number} of what is watched is not declared")]
     Watched { number: usize },
+    /// What is assumed is no expression over inputs; the expressions are counted from 1.
+    #[error("expression {number} of what is assumed is none")]
+    Assumed { number: usize },
+    /// A word of what is assumed names no input; the expressions are counted from 1, and the bytes of one too.
+    #[error("the word at column {column} of expression {number} of what is assumed names no input")]
+    NoInput { number: usize, column: usize },
+    /// With no combination of the inputs what is assumed is true.
+    #[error("C9: what is assumed is never true")]
+    NeverTrue,
     /// The second name of a pair that is to be ON names neither a variable nor the output of an instance.
     #[error("the second name names nothing that can be ON")]
     Both,
@@ -145,6 +154,9 @@ fn add_words<W: Sink>(
         ToolFault::State(fault) => add_state_fault(buffer, fault, writer),
         ToolFault::Word { number } => add_numbered(buffer, b"X3 word ", number as u64, writer),
         ToolFault::Watched { number } => add_numbered(buffer, b"X3 watch ", number as u64, writer),
+        ToolFault::Assumed { number } => add_numbered(buffer, b"X2 assume ", number as u64, writer),
+        ToolFault::NoInput { number, column } => add_no_input(buffer, number, column, writer),
+        ToolFault::NeverTrue => buffer.add(b"C9\n", writer),
         ToolFault::Both => buffer.add(b"X3 both\n", writer),
         ToolFault::Sim(fault) => add_sim_fault(buffer, fault, writer),
         ToolFault::Write => buffer.add(b"X6\n", writer),
@@ -169,6 +181,25 @@ fn add_var_fault<W: Sink>(
         Piece::Number(var_rule(fault.rule).number),
         Piece::Text(b" line "),
         Piece::Number(fault.line as u64),
+        Piece::Text(b"\n"),
+    ];
+    add_pieces(buffer, pieces.as_slice(), writer)
+}
+
+/// Adds that a word of what is assumed names no input, and where it stands.
+fn add_no_input<W: Sink>(
+    buffer: &mut TextBuffer,
+    number: usize,
+    column: usize,
+    writer: &mut W,
+) -> Result<(), WriteFault>
+    ensures { Sends (W.log writer.old) (W.log writer.new) buffer.old buffer.new result (fault_words (NoInput number column)) }
+{
+    let pieces = [
+        Piece::Text(b"X3 assume "),
+        Piece::Number(number as u64),
+        Piece::Text(b" column "),
+        Piece::Number(column as u64),
         Piece::Text(b"\n"),
     ];
     add_pieces(buffer, pieces.as_slice(), writer)

@@ -1,5 +1,5 @@
 -- What a cursor gives and a writer counts is the list of the question in its form.
-use Rattle.std.proofs.Common.{◌≡◌, ◌∙◌, ap, refl, sym, inl, inr, ℕ, List, Option, length}
+use Rattle.std.proofs.Common.{◌≡◌, ◌∙◌, ap, refl, sym, inl, inr, ℕ, Bool, List, Option, length}
 use Rattle.std.specs.Prelude.{None, option_map}
 use Rattle.diagram_program.specs.Program.{Drawing}
 use Rattle.causes_query.specs.declared.fault.CauseFault.TheVariants as cause
@@ -37,29 +37,29 @@ use Rattle.cli_questions.specs.declared.counting.ListCounts.TheVariants as count
 use Rattle.cli_questions.specs.Forms.{form_on}
 use Rattle.cli_lists.specs.Lists.{IsFirstFault, cause_counts, causes_text, group_counts, groups_text, held_fault, held_for, held_group_counts, held_group_fault, held_groups_for, ordered}
 
-summary_is : (s : Summary) (rows looks : ℕ) → s.rows ≡ rows → s.looks ≡ looks → counts.Causes s ≡ counts.Causes (record { rows = rows; looks = looks })
-summary_is s rows looks h l = ap (λ (n : ℕ). counts.Causes (record { rows = n; looks = s.looks })) h ∙ ap (λ (n : ℕ). counts.Causes (record { rows = rows; looks = n })) l
-
 groups_summary_is : (s : GroupSummary) (rows causes : ℕ) → s.rows ≡ rows → s.causes ≡ causes → counts.Groups s ≡ counts.Groups (record { rows = rows; causes = causes })
 groups_summary_is s rows causes h l =
     ap (λ (n : ℕ). counts.Groups (record { rows = n; causes = s.causes })) h ∙ ap (λ (n : ℕ). counts.Groups (record { rows = rows; causes = n })) l
 
 -- ---- a list of causes
 
-module _ (limit after upto : Option ℕ) (q : Question) (c : Cursor) (of_program : c.program ≡ q.program) (of_listed : c.listed ≡ q.listed)
-    (made : c.rest ≡ causes_after after q) where
-  pub causes_are : cause_text c.program c.listed (limited limit (part upto c.rest)) ≡ causes_text limit after upto q
+module _ (limit upto : Option ℕ) (xs : List ℕ) (q : Question) (c : Cursor) (of_program : c.program ≡ q.program) (of_listed : c.listed ≡ q.listed)
+    (made : c.rest ≡ xs) where
+  pub causes_are : cause_text c.program c.listed (limited limit (part upto c.rest)) ≡ cause_text q.program q.listed (limited limit (part upto xs))
   causes_are =
       ap (λ (d : Drawing). cause_text d c.listed (limited limit (part upto c.rest))) of_program
       ∙ ap (λ (g : List ℕ). cause_text q.program g (limited limit (part upto c.rest))) of_listed
-      ∙ ap (λ (xs : List ℕ). cause_text q.program q.listed (limited limit (part upto xs))) made
+      ∙ ap (λ (ns : List ℕ). cause_text q.program q.listed (limited limit (part upto ns))) made
 
-  pub cause_counts_are : (s : Summary) → searched c ≡ search_of q (first_number after) → looks_of c ≡ 0 → s.rows ≡ length (limited limit (part upto c.rest))
-      → s.looks ≡ part_looks upto (searched c) (looks_of c) limit (part upto c.rest) → counts.Causes s ≡ cause_counts limit after upto q
-  cause_counts_are s same none h l = summary_is s _ _ (h ∙ ap (λ (xs : List ℕ). length (limited limit (part upto xs))) made)
-      (l ∙ ap (λ (t : Search). part_looks upto t (looks_of c) limit (part upto c.rest)) same
-      ∙ ap (λ (n : ℕ). part_looks upto (search_of q (first_number after)) n limit (part upto c.rest)) none
-      ∙ ap (λ (xs : List ℕ). part_looks upto (search_of q (first_number after)) 0 limit (part upto xs)) made)
+  pub summary_is : (s : Summary) (t : Search) → searched c ≡ t → looks_of c ≡ 0 → s.rows ≡ length (limited limit (part upto c.rest))
+      → s.looks ≡ part_looks upto (searched c) (looks_of c) limit (part upto c.rest)
+      → s ≡ record { rows = length (limited limit (part upto xs)); looks = part_looks upto t 0 limit (part upto xs) }
+  summary_is s t same none h l =
+      ap (λ (n : ℕ). record { rows = n; looks = s.looks }) (h ∙ ap (λ (ns : List ℕ). length (limited limit (part upto ns))) made)
+      ∙ ap (λ (n : ℕ). record { rows = length (limited limit (part upto xs)); looks = n }) (l
+      ∙ ap (λ (r : Search). part_looks upto r (looks_of c) limit (part upto c.rest)) same
+      ∙ ap (λ (n : ℕ). part_looks upto t n limit (part upto c.rest)) none
+      ∙ ap (λ (ns : List ℕ). part_looks upto t 0 limit (part upto ns)) made)
 
 -- ---- over several scans
 
@@ -119,19 +119,22 @@ pub same_refusal : SiftedIsPermutation → RefusedInAnyOrder → (o : InputOrder
 same_refusal permuted same o asked q order = sym (ordered_refusal permuted same o asked) ∙ ap (λ (x : Question). refusal x None) (sym order)
 
 -- What a cursor over the groups of a question in an order has to give, in a form, is what is asked.
-module _ (limit : Option ℕ) (q ordered_q : Question) (order : q ≡ ordered_q) (c : GroupCursor) (made : rows_left c ≡ rows (is_cause q) (length q.listed) 0) where
-  rows_are : rows_left c ≡ rows (is_cause ordered_q) (length ordered_q.listed) 0
-  rows_are = made ∙ ap (λ (x : Question). rows (is_cause x) (length x.listed) 0) order
+module _ (limit : Option ℕ) (chosen : Question → ℕ → Bool) (q ordered_q : Question) (order : q ≡ ordered_q) (c : GroupCursor)
+    (made : rows_left c ≡ rows (chosen q) (length q.listed) 0) where
+  rows_are : rows_left c ≡ rows (chosen ordered_q) (length ordered_q.listed) 0
+  rows_are = made ∙ ap (λ (x : Question). rows (chosen x) (length x.listed) 0) order
 
   pub groups_are : (form : GroupForm) (shape : GroupFormat) → form ≡ form_on shape q.coil → c.program ≡ q.program → c.listed ≡ q.listed
-      → form_text form c.program c.listed (limited limit (rows_left c)) ≡ groups_text shape limit ordered_q
+      → form_text form c.program c.listed (limited limit (rows_left c))
+      ≡ form_text (form_on shape ordered_q.coil) ordered_q.program ordered_q.listed (limited limit (rows (chosen ordered_q) (length ordered_q.listed) 0))
   groups_are form shape same of_program of_listed =
       ap (λ (f : GroupForm). form_text f c.program c.listed (limited limit (rows_left c))) (same ∙ ap (λ (x : Question). form_on shape x.coil) order)
       ∙ ap (λ (d : Drawing). form_text (form_on shape ordered_q.coil) d c.listed (limited limit (rows_left c))) (of_program ∙ ap (λ (x : Question). x.program) order)
       ∙ ap (λ (g : List ℕ). form_text (form_on shape ordered_q.coil) ordered_q.program g (limited limit (rows_left c))) (of_listed ∙ ap (λ (x : Question). x.listed) order)
       ∙ ap (λ rs. form_text (form_on shape ordered_q.coil) ordered_q.program ordered_q.listed (limited limit rs)) rows_are
 
-  pub group_counts_are : (s : GroupSummary) → s.rows ≡ length (limited limit (rows_left c)) → s.causes ≡ causes_in (limited limit (rows_left c))
-      → counts.Groups s ≡ group_counts limit ordered_q
-  group_counts_are s h l =
-      groups_summary_is s _ _ (h ∙ ap (λ rs. length (limited limit rs)) rows_are) (l ∙ ap (λ rs. causes_in (limited limit rs)) rows_are)
+  pub group_summary_is : (s : GroupSummary) → s.rows ≡ length (limited limit (rows_left c)) → s.causes ≡ causes_in (limited limit (rows_left c))
+      → s ≡ record { rows = length (limited limit (rows (chosen ordered_q) (length ordered_q.listed) 0)); causes = causes_in (limited limit (rows (chosen ordered_q) (length ordered_q.listed) 0)) }
+  group_summary_is s h l =
+      ap (λ (n : ℕ). record { rows = n; causes = s.causes }) (h ∙ ap (λ rs. length (limited limit rs)) rows_are)
+      ∙ ap (λ (n : ℕ). record { rows = length (limited limit (rows (chosen ordered_q) (length ordered_q.listed) 0)); causes = n }) (l ∙ ap (λ rs. causes_in (limited limit rs)) rows_are)

@@ -1,3 +1,4 @@
 mod Deciding
 mod Forms
 mod ProgressEnds
+pub mod Assumed

@@ -1,6 +1,7 @@
 //! The requests for lists: rows, the line of their counts, and faults.
 #![tactic(auto)]
 
+mod assuming;
 mod grouping;
 mod held_grouping;
 mod holding;
@@ -8,8 +9,7 @@ mod listing;
 mod progress;
 mod relevant;
 
-pub use grouping::list_groups;
+pub use assuming::{list_causes_assuming, list_groups_assuming, read_assumed};
 pub use holding::list_held;
-pub use listing::list_causes;
 pub use progress::list_progress;
 pub use relevant::list_relevant;

@@ -11,6 +11,7 @@ use crate::help::ALIASES_HELP;
 use crate::help::ALL_COILS_HELP;
 use crate::help::ALL_HELP;
 use crate::help::ANY_HELP;
+use crate::help::ASSUME_HELP;
 use crate::help::AT_HELP;
 use crate::help::BITS_HELP;
 use crate::help::CAUSES_ABOUT;
@@ -227,6 +228,7 @@ const CAUSES: &[Word] = &[
     Word::Number("scans", "N", SCANS_HELP),
     Word::Number("for", "MS", FOR_HELP),
     Word::Number("every", "MS", EVERY_HELP),
+    Word::Texts("assume", "EXPRESSION", ASSUME_HELP),
     Word::Flag("grouped", GROUPED_HELP),
     Word::Flag("terms", TERMS_HELP),
     Word::Flag("st", STATEMENT_HELP),

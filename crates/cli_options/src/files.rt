@@ -19,9 +19,11 @@ rungs 1 variables 4 instances 0
 ";
 
 pub(crate) const X2: &str = "\
-X2: a record of the state or the stimulus is bad
+X2: a record of the state or the stimulus, or an expression, is bad
 
 Records are counted from 1, the header included; empty lines don't count. A state has exactly the records of its program, in order, with names spelled as declared, no spaces, and numbers without needless zeros. After a change of the program, make its states anew. In both, the fields are divided by commas: semicolons are X2 at record 1. In a stimulus each record has a moment and a 0 or 1 for each name of the header.
+
+Of `causes --assume` it is an expression that is none, with its number: it has a character that isn't allowed or a comment without an end, its words make no expression, or more than 100 parentheses, NOTs and operators stand within one another. The first one is assume 1.
 
 ```console
 $ cat two_fields.csv
@@ -33,6 +35,8 @@ fault X2 stimulus row 2
 $ sed 's/var,Start/var,start/' state.csv > renamed.csv
 $ ladder causes --state renamed.csv motor.ld Motor Start Stop
 fault X2 state row 3
+$ ladder causes --assume 'NOT (Start AND Stop' motor.ld Motor Start Stop
+fault X2 assume 1
 ```
 
 Corrected:
@@ -49,13 +53,17 @@ number,Start,Stop
 0,0,0
 2,1,0
 rows 2 looks 1
+$ ladder causes --assume 'NOT (Start AND Stop)' motor.ld Motor Start Stop
+number,Start,Stop
+2,1,0
+rows 1 looks 1 assumed 1
 ```
 ";
 
 pub(crate) const X3: &str = "\
-X3: an argument is no name of a variable, or no input in a stimulus
+X3: an argument is no name of a variable, or no input in a stimulus or an expression or an expression
 
-On the command line COIL is word 1, the first INPUT word 2, also for `show --coil COIL`, with `--stimulus` too; in `show` without it the first INPUT is word 1. Of `reach` NAME is word 1, the name of `--both` is `both`, and the first INPUT word 2; NAME and that of `--both` may be of a block too, with its output behind it (`T1.Q`, of a bistable `B1.Q1`) or without. In the header of a stimulus (row 1) each name must be an input. A name of `sim --watch` must be that of a variable or of a block, without `.Q`; the first one is watch 1.
+On the command line COIL is word 1, the first INPUT word 2, also for `show --coil COIL`, with `--stimulus` too; in `show` without it the first INPUT is word 1. Of `reach` NAME is word 1, the name of `--both` is `both`, and the first INPUT word 2; NAME and that of `--both` may be of a block too, with its output behind it (`T1.Q`, of a bistable `B1.Q1`) or without. In the header of a stimulus (row 1) each name must be an input. A name of `sim --watch` must be that of a variable or of a block, without `.Q`; the first one is watch 1. Each word of `causes --assume` that is none of an expression must be the name of an input, no coil, memory variable, block or number; the line has the number of the expression, and the column at which the word begins.
 
 ```console
 $ ladder causes motor.ld Moter Start Stop
@@ -71,6 +79,8 @@ $ ladder sim motor.ld lamp.csv
 fault X3 row 1
 $ ladder sim --watch Motor --watch Mottor motor.ld lamp.csv
 fault X3 watch 2
+$ ladder causes --assume 'Start OR Motor' motor.ld Motor Start Stop
+fault X3 assume 1 column 10
 ```
 
 Corrected:
@@ -86,6 +96,10 @@ moment,Start
 $ ladder sim motor.ld start.csv
 moment,Motor,Lamp
 0,1,0
+$ ladder causes --assume 'Start OR Stop' motor.ld Motor Start Stop
+number,Start,Stop
+2,1,0
+rows 1 looks 1 assumed 1
 ```
 ";
 

@@ -10,7 +10,7 @@ pub(crate) const FAULTS: &str =
   V1 to V9    the declarations break a rule on that line
   A1          the alias on that line is a name or another alias (--aliases)
   G1 to G15   the drawing breaks a rule in that rung, on that line
-  C1 to C8    there is no list, or no scan to show, for this question
+  C1 to C9    there is no list, or no scan to show, for this question
   X1 to X7    a file can't be read, or a word or record of it is bad;
               X6: a write failed; X7: out of memory
   P1 to P8    the file is no project of ClassicLadder, or has what can't be
@@ -336,6 +336,11 @@ pub(crate) const SHOWN_HELP: &str = "The inputs of that list, at most 32, the fi
 most significant; the others keep what the state
 stores";
 
+pub(crate) const ASSUME_HELP: &str = "Counts only combinations with which EXPRESSION, in
+Structured Text over inputs, is true; may be given
+several times; not with --any, --scans, --for,
+--relevant or --progress";
+
 pub(crate) const GROUPED_HELP: &str = "Lists the causes in groups: how many each has, and
 - for an input that doesn't matter there; not with
 --after";
@@ -354,7 +359,8 @@ list (as without it)";
 pub(crate) const ANY_HELP: &str = "Lists what some state, at some moment, switches on:
 a row for each such assignment, marked ? where that
 isn't settled; not with --at, --after, --scans,
---for or --every; --state only with --runs";
+--for, --every or --assume; --state only with
+--runs";
 
 pub(crate) const OFF_HELP: &str = "With --any: counts only states in which the coil is
 OFF, so lists what can switch it ON";

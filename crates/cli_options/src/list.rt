@@ -3,16 +3,16 @@
 use crate::{declarations, drawing, exports, files, projects, questions, statements, units, words};
 
 /// The codes, in the order of the document.
-pub(crate) const CODES: [&str; 71] = [
+pub(crate) const CODES: [&str; 72] = [
     "V1", "V2", "V3", "V4", "V5", "V6", "V7", "V8", "V9", "A1", "G1", "G2", "G3", "G4", "G5", "G6",
     "G7", "G8", "G9", "G10", "G11", "G12", "G13", "G14", "G15", "C1", "C2", "C3", "C4", "C5", "C6",
-    "C7", "C8", "S1", "X1", "X2", "X3", "X4", "X5", "X6", "X7", "P1", "P2", "P3", "P4", "P5", "P6",
-    "P7", "P8", "N1", "N2", "N3", "N4", "N5", "N6", "N7", "T1", "T2", "T3", "T4", "T5", "T6", "T7",
-    "T8", "T9", "T10", "E1", "E2", "E3", "E4", "usage",
+    "C7", "C8", "C9", "S1", "X1", "X2", "X3", "X4", "X5", "X6", "X7", "P1", "P2", "P3", "P4", "P5",
+    "P6", "P7", "P8", "N1", "N2", "N3", "N4", "N5", "N6", "N7", "T1", "T2", "T3", "T4", "T5", "T6",
+    "T7", "T8", "T9", "T10", "E1", "E2", "E3", "E4", "usage",
 ];
 
 /// The page of each code.
-pub(crate) const PAGES: [&str; 71] = [
+pub(crate) const PAGES: [&str; 72] = [
     declarations::V1,
     declarations::V2,
     declarations::V3,
@@ -46,6 +46,7 @@ pub(crate) const PAGES: [&str; 71] = [
     questions::C6,
     questions::C7,
     questions::C8,
+    questions::C9,
     questions::S1,
     files::X1,
     files::X2,
@@ -121,10 +122,11 @@ C5: an input is listed twice
 C6: there is no such number
 C7: out of memory
 C8: there are no such scans
+C9: what is assumed is never true
 S1: a scan before the stored moment
 X1: a file can't be read
-X2: a record of the state or the stimulus is bad
-X3: an argument is no name of a variable, or no input in a stimulus
+X2: a record of the state or the stimulus, or an expression, is bad
+X3: an argument is no name of a variable, or no input in a stimulus or an expression or an expression
 X4: a moment that goes back
 X5: a text is too long
 X6: a write failed

@@ -164,6 +164,28 @@ rows 1
 ```
 ";
 
+pub(crate) const C9: &str = "\
+C9: what is assumed is never true
+
+With none of the combinations that are listed all expressions of `--assume` are true, so nothing could be listed, whatever the program does. An input that isn't listed keeps its stored value.
+
+```console
+$ ladder causes --assume 'Start AND NOT Start' motor.ld Motor Start Stop
+fault C9
+$ ladder causes --assume Stop motor.ld Motor Start
+fault C9
+```
+
+Corrected:
+
+```console
+$ ladder causes --assume 'NOT Stop' motor.ld Motor Start
+number,Start
+1,1
+rows 1 looks 1 assumed 1
+```
+";
+
 pub(crate) const S1: &str = "\
 S1: a scan before the stored moment
 

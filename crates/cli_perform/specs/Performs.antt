@@ -14,7 +14,8 @@ use Rattle.clp_project.specs.declared.reading.ReadingOptions.{ReadingOptions}
 use Rattle.cli_draw.specs.Drawing.{BreaksDrawing, Draws}
 use Rattle.cli_export.specs.Exporting.{BreaksExport, Exports}
 use Rattle.cli_import.specs.Carrying.{BreaksCarrying, Carries}
-use Rattle.cli_lists.specs.Lists.{BreaksGroups, BreaksHeldBy, BreaksList, BreaksProgress, BreaksRelevant, CountsGroups, CountsHeldBy, CountsList, CountsProgress, CountsRelevant, HasHeldFaultBy, HasListFault, HasRelevantFault, after_for, scans_of}
+use Rattle.cli_lists.specs.Assumed.{BreaksAllGroups, BreaksCauses, CountsAllGroups, CountsCauses, HasCausesFault, HasGroupsFault}
+use Rattle.cli_lists.specs.Lists.{BreaksHeldBy, BreaksProgress, BreaksRelevant, CountsHeldBy, CountsProgress, CountsRelevant, HasHeldFaultBy, HasListFault, HasRelevantFault, after_for, scans_of}
 use Rattle.cli_states.specs.AnyState.{BreaksPossible, CountsPossible, HasPossibleFault}
 use Rattle.cli_states.specs.Never.{BreaksNever, CountsNever, HasNeverFault}
 use Rattle.cli_reach.specs.Asking.{HasReachFault}
@@ -37,13 +38,13 @@ name_for r = name_of (option_map string_bytes r.name)
 -- Status 0. Only a simulation writes on `save`; on `err` only a list, a search for a run, or a simulation that tells how far it is.
 abbrev pub IsDone : Request → Given → Logs → Logs → Type 0
 IsDone (Check file warns) g old new = Checks warns g (PutsAll old.out new.out) × (new.save ≡ old.save) × (new.err ≡ old.err)
-IsDone (Causes list after upto) g old new = CountsList g list after upto old.out new.out (PutsAll old.err new.err) × (new.save ≡ old.save)
+IsDone (Causes list after upto) g old new = CountsCauses g list after upto old.out new.out (PutsAll old.err new.err) × (new.save ≡ old.save)
 IsDone (request.Progress list after upto) g old new = CountsProgress g list after upto old new × (new.save ≡ old.save)
 IsDone (Held list scans every grouped) g old new = CountsHeldBy grouped g list (scans_of scans every) old.out new.out (PutsAll old.err new.err) × (new.save ≡ old.save)
 IsDone (request.Never r) g old new = CountsNever r.excluded g r old.out new.out (PutsAll old.err new.err) × (new.save ≡ old.save)
 IsDone (request.Reach r) g old new = TellsFound g r old.out new.out (PutsAll old.err new.err) × (new.save ≡ old.save)
 IsDone (request.Possible r) g old new = CountsPossible g r old.out new.out (PutsAll old.err new.err) × (new.save ≡ old.save)
-IsDone (Groups list grouping) g old new = CountsGroups g list grouping old.out new.out (PutsAll old.err new.err) × (new.save ≡ old.save)
+IsDone (Groups list grouping) g old new = CountsAllGroups g list grouping old.out new.out (PutsAll old.err new.err) × (new.save ≡ old.save)
 IsDone (request.Relevant list after grouping) g old new = CountsRelevant g list after grouping old.out new.out (PutsAll old.err new.err) × (new.save ≡ old.save)
 IsDone (Show r) g old new = Shows g r (PutsAll old.out new.out) × (new.save ≡ old.save) × (new.err ≡ old.err)
 IsDone (request.Film r) g old new = IsFilmed g r old.out new.out × (new.save ≡ old.save) × (new.err ≡ old.err)
@@ -59,13 +60,13 @@ IsDone (Export r) g old new = Exports g r.language (name_for r) r.bits (PutsAll 
 -- the faults that the texts and arguments of a request can have
 abbrev pub HasFault : Request → Given → ToolFault → Type 0
 HasFault (Check file warns) g = HasProgramFault g
-HasFault (Causes list after upto) g = HasListFault g list after upto
+HasFault (Causes list after upto) g = HasCausesFault g list after upto
 HasFault (request.Progress list after upto) g = HasListFault g list after upto
 HasFault (Held list scans every grouped) g = HasHeldFaultBy grouped g list (scans_of scans every)
 HasFault (request.Never r) g = HasNeverFault g
 HasFault (request.Reach r) g = HasReachFault g r
 HasFault (request.Possible r) g = HasPossibleFault g r
-HasFault (Groups list grouping) g = HasListFault g list None None
+HasFault (Groups list grouping) g = HasGroupsFault g list
 HasFault (request.Relevant list after grouping) g = HasRelevantFault g list (after_for after grouping)
 HasFault (Show r) g = HasShowFault g r
 HasFault (request.Film r) g = HasFilmFault g r
@@ -82,13 +83,13 @@ HasFault (Export r) g = HasProgramFault g
 abbrev pub Breaks : Request → Given → Logs → Logs → Type 0
 Breaks (Check file warns) g old new =
     Checks warns g (PutsPrefix old.out new.out) × (new.save ≡ old.save) × IsReported g old.err new.err fault.Write
-Breaks (Causes list after upto) g old new = BreaksList g list after upto old new × (new.save ≡ old.save)
+Breaks (Causes list after upto) g old new = BreaksCauses g list after upto old new × (new.save ≡ old.save)
 Breaks (request.Progress list after upto) g old new = BreaksProgress g list after upto old new × (new.save ≡ old.save)
 Breaks (Held list scans every grouped) g old new = BreaksHeldBy grouped g list (scans_of scans every) old new × (new.save ≡ old.save)
 Breaks (request.Never r) g old new = BreaksNever r.excluded g r old new × (new.save ≡ old.save)
 Breaks (request.Reach r) g old new = BreaksReach g r old new × (new.save ≡ old.save)
 Breaks (request.Possible r) g old new = BreaksPossible g r old new × (new.save ≡ old.save)
-Breaks (Groups list grouping) g old new = BreaksGroups g list grouping old new × (new.save ≡ old.save)
+Breaks (Groups list grouping) g old new = BreaksAllGroups g list grouping old new × (new.save ≡ old.save)
 Breaks (request.Relevant list after grouping) g old new = BreaksRelevant g list after grouping old new × (new.save ≡ old.save)
 Breaks (Show r) g old new = Shows g r (PutsPrefix old.out new.out) × (new.save ≡ old.save) × IsReported g old.err new.err fault.Write
 Breaks (request.Film r) g old new = BreaksFilm g r old new × (new.save ≡ old.save)

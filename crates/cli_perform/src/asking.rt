@@ -14,6 +14,7 @@ use cli_arguments::{ListRequest, PossibleRequest, Request};
 use cli_inputs::{
     CauseVariables, Setting, Texts, ToolFault, asked_variables, moment, read_setting,
 };
+use cli_lists::read_assumed;
 use scan_held::{Scans, are_no_scans};
 use search_groups::BITS_LIMIT;
 use std::alloc::Global;
@@ -67,11 +68,9 @@ fn check_for(
 ) -> Result<(), ToolFault> {
     match request {
         Request::Causes { list, after, upto } | Request::Progress { list, after, upto } => {
-            match check_list(alloc, list, *after, setting, coil) {
-                // A number to end at is refused as one to begin after.
-                Ok(()) => check_list(alloc, list, *upto, setting, coil),
-                Err(fault) => Err(fault),
-            }
+            check_list(alloc, list, *after, setting, coil)?;
+            // A number to end at is refused as one to begin after.
+            check_list(alloc, list, *upto, setting, coil)
         }
         Request::Groups { list, .. } => check_list(alloc, list, None, setting, coil),
         Request::Held {
@@ -161,8 +160,20 @@ fn check_list(
     coil: &String,
 ) -> Result<(), ToolFault> {
     let named = named_in(alloc, list, setting, coil)?;
+    check_assumed(alloc, list, setting)?;
     let now = moment(list.moment, setting.state.moment());
     check_rules(setting, now, &named, after)
+}
+
+/// Refuses what is assumed of the inputs where it can't be read.
+fn check_assumed(alloc: Global, list: &ListRequest, setting: &Setting) -> Result<(), ToolFault> {
+    match read_assumed(alloc, &setting.program, &list.assumed) {
+        Ok(assumed) => {
+            drop(assumed);
+            Ok(())
+        }
+        Err(fault) => Err(fault),
+    }
 }
 
 /// Refuses a list over several scans that can't be made of this coil.

@@ -14,7 +14,9 @@ use cli_draw::write_drawing;
 use cli_export::{Exporting, write_export};
 use cli_import::{Importing, carry};
 use cli_inputs::Texts;
-use cli_lists::{list_causes, list_groups, list_held, list_progress, list_relevant};
+use cli_lists::{
+    list_causes_assuming, list_groups_assuming, list_held, list_progress, list_relevant,
+};
 use cli_reach::reach;
 use cli_states::{list_never, list_possible};
 use cli_views::{About, expect, film, print, show, trace, watch, wave};
@@ -131,7 +133,7 @@ pub fn perform<O: Sink, S: Sink, E: Sink>(
         Request::Reach(asked) => reach(alloc, asked, texts, out, err),
         Request::Possible(possible) => list_possible(alloc, possible, texts, out, err),
         Request::Causes { list, after, upto } => {
-            list_causes(alloc, list, *after, *upto, texts, out, err)
+            list_causes_assuming(alloc, list, *after, *upto, texts, out, err)
         }
         Request::Progress { list, after, upto } => {
             list_progress(alloc, list, *after, *upto, texts, out, err)
@@ -148,7 +150,9 @@ pub fn perform<O: Sink, S: Sink, E: Sink>(
             };
             list_held(alloc, list, scans, *grouped, texts, out, err)
         }
-        Request::Groups { list, grouping } => list_groups(alloc, list, *grouping, texts, out, err),
+        Request::Groups { list, grouping } => {
+            list_groups_assuming(alloc, list, *grouping, texts, out, err)
+        }
         Request::Relevant {
             list,
             after,

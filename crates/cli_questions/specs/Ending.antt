@@ -22,11 +22,17 @@ abbrev pub equivalence_line : Bool → List ℕ
 equivalence_line true = codes "equivalent\n"
 equivalence_line false = []
 
--- The rows, and what else is counted: `looks L`, `causes C`, `unsettled U`, `differences D`.
+-- ` assumed A`
+abbrev pub assumed_end : ℕ → List ℕ
+assumed_end assumed = codes " assumed " ++ (decimal assumed ++ codes "\n")
+
+-- The rows, and what else is counted: `looks L`, `causes C`, `unsettled U`, `differences D`, and at the end how many expressions are assumed.
 abbrev pub counts_line : ListCounts → List ℕ
 counts_line (counts.Rows rows) = held_line rows
 counts_line (counts.Causes s) = codes "rows " ++ (decimal s.rows ++ (codes " looks " ++ (decimal s.looks ++ codes "\n")))
 counts_line (counts.Groups s) = codes "rows " ++ (decimal s.rows ++ (codes " causes " ++ (decimal s.causes ++ codes "\n")))
+counts_line (counts.AssumedCauses s assumed) = codes "rows " ++ (decimal s.rows ++ (codes " looks " ++ (decimal s.looks ++ assumed_end assumed)))
+counts_line (counts.AssumedGroups s assumed) = codes "rows " ++ (decimal s.rows ++ (codes " causes " ++ (decimal s.causes ++ assumed_end assumed)))
 counts_line (counts.Possible rows unsettled) = codes "rows " ++ (decimal rows ++ (codes " unsettled " ++ (decimal unsettled ++ codes "\n")))
 counts_line (counts.Differences rows differences) = codes "rows " ++ (decimal rows ++ (codes " differences " ++ (decimal differences ++ codes "\n")))
 counts_line (counts.Verdicts same differs unsettled is_equivalent) =

@@ -18,6 +18,7 @@ const CAUSES: &[Rule] = &[
             Term::Valued("scans"),
             Term::Valued("for"),
             Term::Valued("every"),
+            Term::Valued("assume"),
             Term::Flag("relevant"),
             Term::Flag("terms"),
             Term::Flag("st"),
@@ -50,6 +51,16 @@ const CAUSES: &[Rule] = &[
             Term::Flag("progress"),
             Term::Flag("all-inputs"),
             Term::Place("inputs", "INPUT"),
+        ],
+    ),
+    // What is assumed is of one scan and of the inputs that are listed, and no line tells how far such a list is.
+    Rule::Excludes(
+        &[Term::Valued("assume")],
+        &[
+            Term::Valued("scans"),
+            Term::Valued("for"),
+            Term::Flag("relevant"),
+            Term::Flag("progress"),
         ],
     ),
     // With `--all-coils` no coil is named, so what is in its place is the first input.

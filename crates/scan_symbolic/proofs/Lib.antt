@@ -11,7 +11,7 @@ mod StepWise
 mod StepLaws
 mod StepLooks
 mod StepsKept
-mod Likened
+pub mod Likened
 pub mod Exits
 mod Values
 mod Starts

@@ -28,7 +28,7 @@ use Rattle.scan_symbolic.proofs.StepLooks.{by_steps}
 use Rattle.scan_symbolic.proofs.StepsKept.{BothGoing, all_gone_kept}
 
 -- ---- pairs of truth values
-abbrev doubled : Algebra (Bool × Bool)
+abbrev pub doubled : Algebra (Bool × Bool)
 doubled = record {
   known = λ b. (b, b);
   join = λ x y. (x.0 || y.0, x.1 || y.1);
@@ -76,7 +76,7 @@ doubled_lattice =
     }
 
 -- ---- what is known of a pair
-abbrev Knows : Likeness → Bool × Bool → Type 0
+abbrev pub Knows : Likeness → Bool × Bool → Type 0
 Knows l w = IsLike l w.0 w.1
 
 or_on : (x : Bool) → (x || true) ≡ true
@@ -156,7 +156,7 @@ known_like : (b : Bool) → Knows (likenesses.known b) (b, b)
 known_like true = (refl, refl)
 known_like false = (refl, refl)
 
-knows_kept : IsKept likenesses doubled Knows
+pub knows_kept : IsKept likenesses doubled Knows
 knows_kept = record {
   known = known_like;
   join = λ l m w z h k. join_like l m w.0 w.1 z.0 z.1 h k;
@@ -166,13 +166,13 @@ knows_kept = record {
 }
 
 -- ---- the sides of a pair
-abbrev IsFirst : Bool × Bool → Bool → Type 0
+abbrev pub IsFirst : Bool × Bool → Bool → Type 0
 IsFirst w b = w.0 ≡ b
 
-abbrev IsSecond : Bool × Bool → Bool → Type 0
+abbrev pub IsSecond : Bool × Bool → Bool → Type 0
 IsSecond w b = w.1 ≡ b
 
-first_kept : IsKept doubled plain IsFirst
+pub first_kept : IsKept doubled plain IsFirst
 first_kept = record {
   known = λ c. refl;
   join = λ x y u v r s. ap₂ (λ a b. a || b) r s;
@@ -181,7 +181,7 @@ first_kept = record {
   choice = λ c x y d u v q r s. ap (λ a. cond a x.0 y.0) q ∙ ap₂ (λ a b. cond d a b) r s;
 }
 
-second_kept : IsKept doubled plain IsSecond
+pub second_kept : IsKept doubled plain IsSecond
 second_kept = record {
   known = λ c. refl;
   join = λ x y u v r s. ap₂ (λ a b. a || b) r s;

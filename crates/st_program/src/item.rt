@@ -187,8 +187,8 @@ fn operand_of(text: &[u8], symbols: &Symbols, word: &[u8]) -> Option<Operand>
     }
 }
 
-/// What a word is in an expression.
-fn token_by(mark: Mark, operand: Option<Operand>) -> Token
+/// What a word is in an expression: by what it is as a keyword or a symbol, else by the operand that it names.
+pub fn token_by(mark: Mark, operand: Option<Operand>) -> Token
     ensures { result ≡ token_by mark operand }
 {
     match mark {

@@ -20,7 +20,8 @@ mod symbols;
 mod values;
 
 pub use fault::{Expected, Refusal, StFault};
-pub use mark::Mark;
+pub use item::token_by;
+pub use mark::{Mark, mark_of};
 pub use notes::MOST_STATEMENTS;
 pub use program::{StInstance, StProgram, read_st_program};
 pub use spelling::bytes_of;

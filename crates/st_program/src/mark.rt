@@ -142,7 +142,7 @@ fn mark_in(table: &[(&[u8], Mark)], word: &[u8]) -> Mark
 
 /// What a word is as a keyword or a symbol, whatever the case of its letters.
 #[tactic(auto, unfolding(crate::specs::Marks::mark_of))]
-pub(crate) fn mark_of(word: &[u8]) -> Mark
+pub fn mark_of(word: &[u8]) -> Mark
     ensures { result ≡ mark_of word.now }
 {
     mark_in(&MARKS, word)

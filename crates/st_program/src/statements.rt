@@ -104,6 +104,16 @@ fn joined(
     with_simple(alloc, simple, copied)
 }
 
+/// Statements in memory of their own.
+fn boxed(alloc: Global, list: StatementList) -> Result<Box<StatementList>, Refusal>
+    ensures { IfOk result (λ b. b.value ≡ list) }
+{
+    match Box::new(alloc, list) {
+        Ok(list) => Ok(list),
+        Err(_) => Err(Refusal::Memory),
+    }
+}
+
 /// An IF before other statements.
 fn select(
     alloc: Global,
@@ -114,11 +124,39 @@ fn select(
 ) -> Result<StatementList, Refusal>
     ensures { IfOk result (IsSelect condition accepted otherwise others) }
 {
+    // What is owned is dropped before a fault is returned: a `?` would drop each tree by its forms.
+    let accepted = match boxed(alloc, accepted) {
+        Ok(accepted) => accepted,
+        Err(fault) => {
+            drop(condition);
+            drop(otherwise);
+            drop(others);
+            return Err(fault);
+        }
+    };
+    let otherwise = match boxed(alloc, otherwise) {
+        Ok(otherwise) => otherwise,
+        Err(fault) => {
+            drop(condition);
+            drop(accepted);
+            drop(others);
+            return Err(fault);
+        }
+    };
+    let next = match boxed(alloc, others) {
+        Ok(next) => next,
+        Err(fault) => {
+            drop(condition);
+            drop(accepted);
+            drop(otherwise);
+            return Err(fault);
+        }
+    };
     Ok(StatementList::Select {
         condition,
-        accepted: Box::new(alloc, accepted)?,
-        otherwise: Box::new(alloc, otherwise)?,
-        next: Box::new(alloc, others)?,
+        accepted,
+        otherwise,
+        next,
     })
 }
 

@@ -6,6 +6,5 @@ pub mod memory;
 mod order;
 mod runs;
 mod scans;
-mod starving;
 mod table;
 mod texts;

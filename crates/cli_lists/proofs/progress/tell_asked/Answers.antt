@@ -1,9 +1,13 @@
-use Rattle.std.proofs.Common.{◌∙◌, inl, inr, refl}
+use Rattle.std.proofs.Common.{◌∙◌, ap, inl, inr, refl}
 use Rattle.cli_inputs.specs.declared.fault.ToolFault.TheVariants as fault
 use Rattle.cli_inputs.specs.Setting.{given_by}
 use Rattle.cli_inputs.proofs.Ends.{all_same, prefix_same}
 use Rattle.cli_questions.specs.Query.{question_of}
-use Rattle.cli_lists.proofs.Forms.{cause_counts_are, causes_are}
+use Rattle.causes_query.specs.Causes.{causes_after}
+use Rattle.causes_one_scan.specs.Cursor.{first_number}
+use Rattle.causes_one_scan.specs.Prefixes.{search_of}
+use Rattle.cli_questions.specs.declared.counting.ListCounts.TheVariants as counts
+use Rattle.cli_lists.proofs.Forms.{causes_are, summary_is}
 use Rattle.cli_lists.proofs.ProgressEnds.{broke_off, progress_line_is}
 use Rattle.cli_lists.proofs.progress.tell_asked.Goals as goal
 
@@ -35,9 +39,10 @@ returns-in_default-clause-failed g c = λ save status.
       accepted = made.accepted;
       written = inr (inr (
         g.E.Sink.log c.write_progress-written.new.err,
-        (all_same _ _ _ _ (causes_are r.limit rows.after rows.upto q c.in-Ok.causes made.program made.listed made.rest) w.ensures.told.0, w.ensures.told.1),
+        (all_same _ _ _ _ (causes_are r.limit rows.upto (causes_after rows.after q) q c.in-Ok.causes made.program made.listed made.rest) w.ensures.told.0, w.ensures.told.1),
         prefix_same _ _ _ _ (progress_line_is r rows.after rows.upto q c.in-Ok.causes made.program made.listed made.rest _
-            (cause_counts_are r.limit rows.after rows.upto q c.in-Ok.causes made.program made.listed made.rest w.summary made.search made.looks w.ensures.rows (w.ensures.looks ∙ w.ensures.counted))) c.in_default.ensures,
+            (ap counts.Causes (summary_is r.limit rows.upto (causes_after rows.after q) q c.in-Ok.causes made.program made.listed made.rest w.summary
+            (search_of q (first_number rows.after)) made.search made.looks w.ensures.rows (w.ensures.looks ∙ w.ensures.counted)))) c.in_default.ensures,
       ));
     })
 
@@ -54,8 +59,9 @@ returns-clause-done g c = λ save status.
       accepted = made.accepted;
       written = (
         g.E.Sink.log c.write_progress-written.new.err,
-        (all_same _ _ _ _ (causes_are r.limit rows.after rows.upto q c.in-Ok.causes made.program made.listed made.rest) w.ensures.told.0, w.ensures.told.1),
+        (all_same _ _ _ _ (causes_are r.limit rows.upto (causes_after rows.after q) q c.in-Ok.causes made.program made.listed made.rest) w.ensures.told.0, w.ensures.told.1),
         all_same _ _ _ _ (progress_line_is r rows.after rows.upto q c.in-Ok.causes made.program made.listed made.rest _
-            (cause_counts_are r.limit rows.after rows.upto q c.in-Ok.causes made.program made.listed made.rest w.summary made.search made.looks w.ensures.rows (w.ensures.looks ∙ w.ensures.counted))) c.in-Ok-put_counts.ensures,
+            (ap counts.Causes (summary_is r.limit rows.upto (causes_after rows.after q) q c.in-Ok.causes made.program made.listed made.rest w.summary
+            (search_of q (first_number rows.after)) made.search made.looks w.ensures.rows (w.ensures.looks ∙ w.ensures.counted)))) c.in-Ok-put_counts.ensures,
       );
     }

@@ -17,7 +17,7 @@ returns-in-Uses-clause-failed g c = λ status.
 
 pub returns-in-Causes-clause-failed : goal.returns-in-Causes-clause-failed
 returns-in-Causes-clause-failed g c = λ status.
-    rw c.in-Causes.is (with_third refl (c.list_causes.ensures.failed (g.S.Sink.log c.args.save.now) status))
+    rw c.in-Causes.is (with_third refl (c.list_causes_assuming.ensures.failed (g.S.Sink.log c.args.save.now) status))
 
 pub returns-in-Never-clause-failed : goal.returns-in-Never-clause-failed
 returns-in-Never-clause-failed g c = λ status. rw c.in-Never.is (with_third refl (c.list_never.ensures.failed (g.S.Sink.log c.args.save.now) status))
@@ -29,7 +29,7 @@ pub returns-in-Possible-clause-failed : goal.returns-in-Possible-clause-failed
 returns-in-Possible-clause-failed g c = λ status. rw c.in-Possible.is (with_third refl (c.list_possible.ensures.failed (g.S.Sink.log c.args.save.now) status))
 
 pub returns-in-Groups-clause-failed : goal.returns-in-Groups-clause-failed
-returns-in-Groups-clause-failed g c = λ status. rw c.in-Groups.is (with_third refl (c.list_groups.ensures.failed (g.S.Sink.log c.args.save.now) status))
+returns-in-Groups-clause-failed g c = λ status. rw c.in-Groups.is (with_third refl (c.list_groups_assuming.ensures.failed (g.S.Sink.log c.args.save.now) status))
 
 pub returns-in-Show-clause-failed : goal.returns-in-Show-clause-failed
 returns-in-Show-clause-failed g c = λ status. rw c.in-Show.is (with_second refl (c.show.ensures.failed (g.S.Sink.log c.args.save.now) status))
@@ -53,10 +53,10 @@ pub returns-in-Progress-clause-failed : goal.returns-in-Progress-clause-failed
 returns-in-Progress-clause-failed g c = λ status. rw c.in-Progress.is (with_third refl (c.list_progress.ensures.failed (g.S.Sink.log c.args.save.now) status))
 
 pub returns-in-Causes-clause-done : goal.returns-in-Causes-clause-done
-returns-in-Causes-clause-done g c = λ status. rw c.in-Causes.is (c.list_causes.ensures.done status, refl)
+returns-in-Causes-clause-done g c = λ status. rw c.in-Causes.is (c.list_causes_assuming.ensures.done status, refl)
 
 pub returns-in-Groups-clause-done : goal.returns-in-Groups-clause-done
-returns-in-Groups-clause-done g c = λ status. rw c.in-Groups.is (c.list_groups.ensures.done status, refl)
+returns-in-Groups-clause-done g c = λ status. rw c.in-Groups.is (c.list_groups_assuming.ensures.done status, refl)
 
 pub returns-in-Held-clause-done : goal.returns-in-Held-clause-done
 returns-in-Held-clause-done g c = λ status. rw c.in-Held.is (c.list_held.ensures.done status, refl)

@@ -1,0 +1,4 @@
+pub mod Reading
+pub mod Several
+pub mod Words
+pub mod Whole

@@ -1,0 +1,2 @@
+pub mod Assumed
+pub mod Inputs

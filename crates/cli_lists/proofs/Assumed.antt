@@ -1,0 +1,85 @@
+-- Lists of the combinations with which what is assumed is true.
+use Rattle.std.proofs.Common.{◌≡◌, ◌∙◌, ap, sym, refl, subst, ℕ, ◌<◌, ◌≤◌, ◌^◌, Bool, true, List, [], ◌∷◌, ◌++◌, length, map, arith, ◌⊎◌, inl, inr, Option, Some, None, Result, Ok, Err}
+use Rattle.std.specs.Option.{option_or}
+use Rattle.std.proofs.lemmas.Nat.{pow_pos}
+use Rattle.st_expression.specs.declared.expression.Expression.{Expression}
+use Rattle.diagram_declarations.specs.Decls.{Declared, is_input}
+use Rattle.io_text.specs.Log.{WriteLog}
+use Rattle.causes_query.specs.Causes.{Question}
+use Rattle.causes_query.specs.Refusal.{refusal}
+use Rattle.causes_query.specs.Sources.{image_of, sources_of}
+use Rattle.causes_query.specs.declared.fault.CauseFault.{CauseFault}
+use Rattle.causes_query.specs.declared.fault.CauseFault.TheVariants as cause
+use Rattle.causes_query.specs.declared.limit.TheConstants.{LISTED_LIMIT}
+use Rattle.causes_query.specs.declared.source.InputSource.{InputSource}
+use Rattle.causes_query.proofs.Asking.{inputs_are}
+use Rattle.causes_query.proofs.Refusals.{accepted}
+use Rattle.causes_one_scan.specs.Assuming.{is_counted}
+use Rattle.assume_truth.specs.Truth.{is_allowed}
+use Rattle.assume_possible.specs.Possible.{IsImpossible, IsPossible}
+use Rattle.cli_inputs.specs.declared.fault.ToolFault.{ToolFault}
+use Rattle.cli_inputs.specs.declared.fault.ToolFault.TheVariants as fault
+use Rattle.cli_inputs.specs.Reports.{HasCauseFault}
+use Rattle.st_words.specs.Places.{AreBetween}
+use Rattle.st_words.specs.declared.word.Word.{Word}
+use Rattle.assume_reading.specs.Reading.{Refuses}
+use Rattle.assume_reading.specs.declared.fault.AssumptionFault.{AssumptionFault}
+use Rattle.assume_reading.specs.declared.fault.AssumptionFault.TheVariants as assumption
+use Rattle.cli_lists.specs.Assumed.{IsEverTrue, IsNeverTrue, IsWordAt}
+use Rattle.cli_lists.specs.Lists.{list_refusal}
+use Rattle.cli_lists.specs.Writing.{WritesSummed}
+
+-- ---- whether some combination counts
+
+module _ (e : Expression) (q : Question) (sources : List InputSource)
+    (are : sources ≡ sources_of (map is_input q.program.decls.vars) q.listed q.state.held.values) where
+  counted_is : (n : ℕ) → is_allowed (Some e) (image_of n sources) ≡ is_counted (Some e) q n
+  counted_is n = ap (λ (xs : List Bool). is_allowed (Some e) xs) (inputs_are q.program q.state q.listed n sources are)
+
+  pub ever_true : IsPossible e sources (length q.listed) → IsEverTrue (Some e) q
+  ever_true h = (h.0, h.1, sym (counted_is h.0) ∙ h.2)
+
+  pub never_true : IsImpossible e sources (length q.listed) → IsNeverTrue (Some e) q
+  never_true h = λ n low. sym (counted_is n) ∙ h n low
+
+pub nothing_assumed : (q : Question) → IsEverTrue None q
+nothing_assumed q = (0, pow_pos (length q.listed), refl)
+
+-- ---- questions that aren't refused
+
+second_none : {A : Type 0} (x y : Option A) → option_or x y ≡ None → y ≡ None
+second_none (Some x) y h = cc
+second_none None y h = h
+
+pub few_listed : (after upto : Option ℕ) (q : Question) → list_refusal after upto q ≡ None → length q.listed ≤ LISTED_LIMIT
+few_listed after upto q h = (accepted q after (second_none _ (refusal q after) h)).listable.few
+
+pub few_grouped : (q : Question) → refusal q None ≡ None → length q.listed ≤ LISTED_LIMIT
+few_grouped q h = (accepted q None h).listable.few
+
+-- ---- what is written
+
+pub counted_written : {S : Type 0} (Refused : ToolFault → Type 0) (May Ever Never : Type 0) (text : List ℕ) (s : S) (out out' : WriteLog) (r : Result S ToolFault)
+    → (May → Ever) → WritesSummed Refused May text s out out' r
+    → WritesSummed (λ f. Refused f ⊎ ((f ≡ fault.NeverTrue) × Never)) (Ever × May) text s out out' r
+counted_written Refused May Ever Never text s out out' (Ok x) ever h = ((ever h.0, h.0), h.1, h.2)
+counted_written Refused May Ever Never text s out out' (Err f) ever (inl h) = inl (inl h.0, h.1)
+counted_written Refused May Ever Never text s out out' (Err f) ever (inr h) = inr (h.0, (ever h.1, h.1), h.2)
+
+pub not_counted : (first : Option CauseFault) (Never : Type 0) (f : ToolFault) → (f ≡ fault.Cause cause.Memory) ⊎ ((f ≡ fault.NeverTrue) × Never)
+    → HasCauseFault first f ⊎ ((f ≡ fault.NeverTrue) × Never)
+not_counted first Never f (inl h) = inl (subst (λ x. HasCauseFault first x) (sym h) (inl refl))
+not_counted first Never f (inr h) = inr h
+
+-- ---- a word that is refused
+
+word_between : (from to : ℕ) (before behind : List Word) (word : Word) → AreBetween from to (before ++ word ∷ behind) → word.start < word.end
+word_between from to [] behind word h = h.1
+word_between from to (w ∷ ws) behind word h = word_between w.end to ws behind word h.2
+
+pub word_at : (decls : Declared) (text : List ℕ) (f : AssumptionFault) → Refuses decls text f → IsWordAt f
+word_at decls text (assumption.NotAnInput start end) h = word_between 0 (length text) h.before h.behind _ h.places
+word_at decls text assumption.Memory h = tt
+word_at decls text (assumption.Character at) h = tt
+word_at decls text assumption.NoExpression h = tt
+word_at decls text assumption.TooDeep h = tt
