@@ -61,7 +61,7 @@ rows 1 looks 1 assumed 1
 ";
 
 pub(crate) const X3: &str = "\
-X3: an argument is no name of a variable, or no input in a stimulus or an expression or an expression
+X3: an argument is no name of a variable, or no input in a stimulus or an expression
 
 On the command line COIL is word 1, the first INPUT word 2, also for `show --coil COIL`, with `--stimulus` too; in `show` without it the first INPUT is word 1. Of `reach` NAME is word 1, the name of `--both` is `both`, and the first INPUT word 2; NAME and that of `--both` may be of a block too, with its output behind it (`T1.Q`, of a bistable `B1.Q1`) or without. In the header of a stimulus (row 1) each name must be an input. A name of `sim --watch` must be that of a variable or of a block, without `.Q`; the first one is watch 1. Each word of `causes --assume` that is none of an expression must be the name of an input, no coil, memory variable, block or number; the line has the number of the expression, and the column at which the word begins.
 

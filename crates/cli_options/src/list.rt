@@ -126,7 +126,7 @@ C9: what is assumed is never true
 S1: a scan before the stored moment
 X1: a file can't be read
 X2: a record of the state or the stimulus, or an expression, is bad
-X3: an argument is no name of a variable, or no input in a stimulus or an expression or an expression
+X3: an argument is no name of a variable, or no input in a stimulus or an expression
 X4: a moment that goes back
 X5: a text is too long
 X6: a write failed
