@@ -1,2 +1,4 @@
 pub mod Telling
 pub mod Likening
+pub mod Counted
+pub mod Plans

@@ -1,2 +1,3 @@
 pub mod Assumed
+pub mod Counted
 pub mod Inputs

@@ -3,7 +3,6 @@ use Rattle.std.proofs.Common.{◌≡◌, ap, ap₂, refl, sym, ℕ, Bool, true, 
 use Rattle.scan_signals.specs.Algebra.{Algebra}
 use Rattle.scan_signals.specs.Relations.{IsKept}
 use Rattle.scan_signals.specs.Truth.{plain}
-use Rattle.st_expression.specs.declared.expression.Operand.{Operand}
 use Rattle.st_expression.specs.declared.expression.Operand.TheVariants.{Variable, Output}
 use Rattle.st_expression.specs.declared.expression.Expression.{Expression}
 use Rattle.st_expression.specs.declared.expression.Expression.TheVariants as tree

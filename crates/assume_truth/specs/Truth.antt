@@ -2,7 +2,6 @@
 -- place in order of declaration.
 use Rattle.std.specs.Prelude.{ℕ, Bool, true, false, List, [], Option, Some, None}
 use Rattle.scan_signals.specs.Algebra.{Algebra}
-use Rattle.st_expression.specs.declared.expression.Operand.{Operand}
 use Rattle.st_expression.specs.declared.expression.Operand.TheVariants.{Variable, Output}
 use Rattle.st_expression.specs.declared.expression.Expression.{Expression}
 use Rattle.st_expression.specs.declared.expression.Expression.TheVariants as tree

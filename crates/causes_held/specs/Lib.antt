@@ -2,6 +2,8 @@ pub mod Asking
 pub mod Settling
 pub mod Tree
 pub mod Rows
+pub mod Assuming
+pub mod Searching
 pub mod Cursor
 pub mod FirstScans
 pub mod GroupRefusal

@@ -29,5 +29,5 @@ pub use groups::Groups;
 pub use order::sifted;
 pub use passes::{LOOKS_BY_FOURS, LOOKS_BY_LANES, Passes};
 pub use quad::{Quad, WordLane};
-pub use relevant::relevant_inputs;
+pub use relevant::{relevant_inputs, relevant_inputs_assuming};
 pub use tree::{AskedScan, CauseTree, new_tree};

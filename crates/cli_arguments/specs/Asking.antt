@@ -265,7 +265,6 @@ Asks name rows (Held list scans every grouped) = (name ≡ codes "causes")
     × (HasFlag (codes "relevant") rows → ⊥)
     × HasNumber (codes "upto") rows None
     × (HasFlag (codes "progress") rows → ⊥)
-    × HasOption (codes "assume") rows None
 Asks name rows (Groups list grouping) = (name ≡ codes "causes")
     × HasFlag (codes "grouped") rows
     × HasForm grouping.form rows

@@ -8,7 +8,7 @@ ghost use Rattle.cli_arguments.specs.Faults.{UsageWhere};
 
 use crate::found::{is_set, number};
 use crate::grouping::refuse_grouping;
-use crate::parts::{assumes, every_of, is_part, list_of};
+use crate::parts::{every_of, is_part, list_of};
 use crate::request::{Request, WordFault};
 use clap::ArgMatches;
 use std::alloc::Global;
@@ -61,10 +61,6 @@ pub(crate) fn held_request(
     ensures err { IfErr result (UsageWhere (AsksNone (codes "causes") (rows_of (found_of found.now)))) }
 {
     if is_part(found) {
-        return Err(WordFault::Usage);
-    }
-    // What is assumed is of one scan.
-    if assumes(found) {
         return Err(WordFault::Usage);
     }
     refuse_grouping(found)?;

@@ -14,7 +14,7 @@ use Rattle.causes_query.specs.declared.limit.TheConstants.{LISTED_LIMIT}
 use Rattle.causes_query.specs.declared.source.InputSource.{InputSource}
 use Rattle.causes_query.proofs.Asking.{inputs_are}
 use Rattle.causes_query.proofs.Refusals.{accepted}
-use Rattle.causes_one_scan.specs.Assuming.{is_counted}
+use Rattle.assume_search.specs.Counted.{is_counted}
 use Rattle.assume_truth.specs.Truth.{is_allowed}
 use Rattle.assume_possible.specs.Possible.{IsImpossible, IsPossible}
 use Rattle.cli_inputs.specs.declared.fault.ToolFault.{ToolFault}

@@ -12,13 +12,13 @@ use Rattle.causes_one_scan.specs.Prefixes.{search_of}
 use Rattle.search_tree.specs.Looks.{Search}
 use Rattle.search_groups.specs.Groups.{rows}
 use Rattle.search_groups.specs.Classes.{numbers_in}
+use Rattle.search_groups.specs.declared.class_walk.ClassGroup.{ClassGroup}
 use Rattle.scan_held.specs.HeldRefusal.{held_reason}
-use Rattle.scan_held.specs.Holding.{held_causes}
 use Rattle.scan_held.specs.declared.fault.HeldFault.{HeldFault}
 use Rattle.scan_held.specs.declared.fault.HeldFault.TheVariants as held
-use Rattle.scan_held.specs.declared.scans.Scans.{Scans}
+use Rattle.scan_held.specs.declared.scans.HeldCause.{HeldCause}
 use Rattle.causes_held.specs.Rows.{HeldCursor}
-use Rattle.causes_held.specs.Cursor.{HeldGroupCursor, held_groups}
+use Rattle.causes_held.specs.Cursor.{HeldGroupCursor}
 use Rattle.causes_held.specs.GroupRefusal.{held_group_reason}
 use Rattle.causes_held.specs.declared.fault.HeldGroupFault.{HeldGroupFault}
 use Rattle.causes_held.specs.declared.fault.HeldGroupFault.TheVariants as held_group
@@ -35,11 +35,7 @@ use Rattle.cli_arguments.specs.declared.request.InputOrder.{InputOrder}
 use Rattle.cli_arguments.specs.declared.request.InputOrder.TheVariants as order
 use Rattle.cli_questions.specs.declared.counting.ListCounts.TheVariants as counts
 use Rattle.cli_questions.specs.Forms.{form_on}
-use Rattle.cli_lists.specs.Lists.{IsFirstFault, cause_counts, causes_text, group_counts, groups_text, held_fault, held_for, held_group_counts, held_group_fault, held_groups_for, ordered}
-
-groups_summary_is : (s : GroupSummary) (rows causes : ℕ) → s.rows ≡ rows → s.causes ≡ causes → counts.Groups s ≡ counts.Groups (record { rows = rows; causes = causes })
-groups_summary_is s rows causes h l =
-    ap (λ (n : ℕ). counts.Groups (record { rows = n; causes = s.causes })) h ∙ ap (λ (n : ℕ). counts.Groups (record { rows = rows; causes = n })) l
+use Rattle.cli_lists.specs.Lists.{IsFirstFault, cause_counts, causes_text, group_counts, groups_text, held_fault, held_group_fault, ordered}
 
 -- ---- a list of causes
 
@@ -63,27 +59,29 @@ module _ (limit upto : Option ℕ) (xs : List ℕ) (q : Question) (c : Cursor) (
 
 -- ---- over several scans
 
-module _ (limit : Option ℕ) (s : Scans) (q : Question) (c : HeldCursor) (made : c.rest ≡ held_causes q s) where
-  pub held_is : c.program ≡ q.program → c.listed ≡ q.listed → held_text c.program c.listed (limited limit c.rest) ≡ held_text q.program q.listed (held_for limit s q)
+module _ (limit : Option ℕ) (q : Question) (xs : List HeldCause) (c : HeldCursor) (made : c.rest ≡ xs) where
+  pub held_is : c.program ≡ q.program → c.listed ≡ q.listed → held_text c.program c.listed (limited limit c.rest) ≡ held_text q.program q.listed (limited limit xs)
   held_is of_program of_listed =
       ap (λ (d : Drawing). held_text d c.listed (limited limit c.rest)) of_program
       ∙ ap (λ (g : List ℕ). held_text q.program g (limited limit c.rest)) of_listed
-      ∙ ap (λ xs. held_text q.program q.listed (limited limit xs)) made
+      ∙ ap (λ rs. held_text q.program q.listed (limited limit rs)) made
 
-  pub held_counts_are : (n : ℕ) → n ≡ length (limited limit c.rest) → counts.Rows n ≡ counts.Rows (length (held_for limit s q))
-  held_counts_are n h = ap (λ (m : ℕ). counts.Rows m) (h ∙ ap (λ xs. length (limited limit xs)) made)
+  pub held_count_is : (n : ℕ) → n ≡ length (limited limit c.rest) → n ≡ length (limited limit xs)
+  held_count_is n h = h ∙ ap (λ rs. length (limited limit rs)) made
 
-module _ (limit : Option ℕ) (s : Scans) (q : Question) (c : HeldGroupCursor) (of_listed : c.listed ≡ q.listed) (made : c.rest ≡ held_groups q s) where
-  pub held_groups_are : c.program ≡ q.program → held_group_text c.program c.listed (limited limit c.rest) ≡ held_group_text q.program q.listed (held_groups_for limit s q)
+module _ (limit : Option ℕ) (q : Question) (xs : List ClassGroup) (c : HeldGroupCursor) (of_listed : c.listed ≡ q.listed) (made : c.rest ≡ xs) where
+  pub held_groups_are : c.program ≡ q.program → held_group_text c.program c.listed (limited limit c.rest) ≡ held_group_text q.program q.listed (limited limit xs)
   held_groups_are of_program =
       ap (λ (d : Drawing). held_group_text d c.listed (limited limit c.rest)) of_program
       ∙ ap (λ (g : List ℕ). held_group_text q.program g (limited limit c.rest)) of_listed
       ∙ ap (λ rs. held_group_text q.program q.listed (limited limit rs)) made
 
-  pub held_group_counts_are : (n : GroupSummary) → n.rows ≡ length (limited limit c.rest) → n.causes ≡ numbers_in (length c.listed) (limited limit c.rest)
-      → counts.Groups n ≡ held_group_counts limit s q
-  held_group_counts_are n h l = groups_summary_is n _ _ (h ∙ ap (λ rs. length (limited limit rs)) made)
-      (l ∙ ap (λ (xs : List ℕ). numbers_in (length xs) (limited limit c.rest)) of_listed ∙ ap (λ rs. numbers_in (length q.listed) (limited limit rs)) made)
+  pub held_summary_is : (n : GroupSummary) → n.rows ≡ length (limited limit c.rest) → n.causes ≡ numbers_in (length c.listed) (limited limit c.rest)
+      → n ≡ record { rows = length (limited limit xs); causes = numbers_in (length q.listed) (limited limit xs) }
+  held_summary_is n h l =
+      ap (λ (m : ℕ). record { rows = m; causes = n.causes }) (h ∙ ap (λ rs. length (limited limit rs)) made)
+      ∙ ap (λ (m : ℕ). record { rows = length (limited limit xs); causes = m })
+      (l ∙ ap (λ (ns : List ℕ). numbers_in (length ns) (limited limit c.rest)) of_listed ∙ ap (λ rs. numbers_in (length q.listed) (limited limit rs)) made)
 
 -- The fault that is told is the first rule that is broken.
 pub held_first : (first : Option HeldFault) (e : HeldFault) → first ≡ held_reason e → IsFirstFault (option_map held_fault first) (held_fault e)

@@ -6,7 +6,8 @@ use Rattle.search_groups.specs.Groups.{Row}
 use Rattle.search_groups.specs.Groups as groups
 use Rattle.causes_query.specs.Causes.{Question}
 use Rattle.causes_query.specs.Refusal.{refusal}
-use Rattle.causes_one_scan.specs.Assuming.{assumed_causes_after, assumed_search_of, is_assumed_cause, is_counted}
+use Rattle.causes_one_scan.specs.Assuming.{assumed_causes_after, assumed_search_of, is_assumed_cause}
+use Rattle.assume_search.specs.Counted.{is_counted}
 use Rattle.causes_one_scan.specs.Cursor.{first_number}
 use Rattle.causes_one_scan.specs.GroupCursor.{causes_in}
 use Rattle.assume_reading.specs.Several.{AreAssumptions, IsFirstRefused}

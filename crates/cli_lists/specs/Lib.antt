@@ -1,3 +1,4 @@
 pub mod Lists
 pub mod Assumed
+pub mod AssumedHeld
 pub mod Writing

@@ -169,15 +169,6 @@ abbrev pub held_refusal_by : Bool → Scans → Question → Option ToolFault
 held_refusal_by true s q = option_map held_group_fault (held_group_refusal q s)
 held_refusal_by false s q = option_map held_fault (held_refusal q s)
 
-abbrev pub CountsHeldBy : Bool → Given → ListRequest → Scans → WriteLog → WriteLog → (List ℕ → Type 0) → Type 0
-CountsHeldBy grouped g r s = CountsAsked (HeldBy grouped r.limit s) g r
-
-abbrev pub BreaksHeldBy : Bool → Given → ListRequest → Scans → Logs → Logs → Type 0
-BreaksHeldBy grouped g r s = BreaksAsked (HeldBy grouped r.limit s) g r
-
-abbrev pub HasHeldFaultBy : Bool → Given → ListRequest → Scans → ToolFault → Type 0
-HasHeldFaultBy grouped g r s = HasRequestFault (λ q. IsFirstFault (held_refusal_by grouped s q)) g r
-
 -- ---- a list of causes in groups
 
 -- the rows of all causes, or the first of them where there is a limit

@@ -3,7 +3,7 @@
 
 mod assuming;
 mod grouping;
-mod held_grouping;
+mod held_writing;
 mod holding;
 mod listing;
 mod progress;

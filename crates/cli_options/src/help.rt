@@ -338,8 +338,8 @@ stores";
 
 pub(crate) const ASSUME_HELP: &str = "Counts only combinations with which EXPRESSION, in
 Structured Text over inputs, is true; may be given
-several times; not with --any, --scans, --for,
---relevant or --progress";
+several times; not with --any, --relevant or
+--progress";
 
 pub(crate) const GROUPED_HELP: &str = "Lists the causes in groups: how many each has, and
 - for an input that doesn't matter there; not with

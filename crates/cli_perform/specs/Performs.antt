@@ -15,7 +15,8 @@ use Rattle.cli_draw.specs.Drawing.{BreaksDrawing, Draws}
 use Rattle.cli_export.specs.Exporting.{BreaksExport, Exports}
 use Rattle.cli_import.specs.Carrying.{BreaksCarrying, Carries}
 use Rattle.cli_lists.specs.Assumed.{BreaksAllGroups, BreaksCauses, CountsAllGroups, CountsCauses, HasCausesFault, HasGroupsFault}
-use Rattle.cli_lists.specs.Lists.{BreaksHeldBy, BreaksProgress, BreaksRelevant, CountsHeldBy, CountsProgress, CountsRelevant, HasHeldFaultBy, HasListFault, HasRelevantFault, after_for, scans_of}
+use Rattle.cli_lists.specs.AssumedHeld.{BreaksAllHeld, CountsAllHeld, HasAllHeldFault}
+use Rattle.cli_lists.specs.Lists.{BreaksProgress, BreaksRelevant, CountsProgress, CountsRelevant, HasListFault, HasRelevantFault, after_for, scans_of}
 use Rattle.cli_states.specs.AnyState.{BreaksPossible, CountsPossible, HasPossibleFault}
 use Rattle.cli_states.specs.Never.{BreaksNever, CountsNever, HasNeverFault}
 use Rattle.cli_reach.specs.Asking.{HasReachFault}
@@ -40,7 +41,7 @@ abbrev pub IsDone : Request → Given → Logs → Logs → Type 0
 IsDone (Check file warns) g old new = Checks warns g (PutsAll old.out new.out) × (new.save ≡ old.save) × (new.err ≡ old.err)
 IsDone (Causes list after upto) g old new = CountsCauses g list after upto old.out new.out (PutsAll old.err new.err) × (new.save ≡ old.save)
 IsDone (request.Progress list after upto) g old new = CountsProgress g list after upto old new × (new.save ≡ old.save)
-IsDone (Held list scans every grouped) g old new = CountsHeldBy grouped g list (scans_of scans every) old.out new.out (PutsAll old.err new.err) × (new.save ≡ old.save)
+IsDone (Held list scans every grouped) g old new = CountsAllHeld grouped g list (scans_of scans every) old.out new.out (PutsAll old.err new.err) × (new.save ≡ old.save)
 IsDone (request.Never r) g old new = CountsNever r.excluded g r old.out new.out (PutsAll old.err new.err) × (new.save ≡ old.save)
 IsDone (request.Reach r) g old new = TellsFound g r old.out new.out (PutsAll old.err new.err) × (new.save ≡ old.save)
 IsDone (request.Possible r) g old new = CountsPossible g r old.out new.out (PutsAll old.err new.err) × (new.save ≡ old.save)
@@ -62,7 +63,7 @@ abbrev pub HasFault : Request → Given → ToolFault → Type 0
 HasFault (Check file warns) g = HasProgramFault g
 HasFault (Causes list after upto) g = HasCausesFault g list after upto
 HasFault (request.Progress list after upto) g = HasListFault g list after upto
-HasFault (Held list scans every grouped) g = HasHeldFaultBy grouped g list (scans_of scans every)
+HasFault (Held list scans every grouped) g = HasAllHeldFault grouped g list (scans_of scans every)
 HasFault (request.Never r) g = HasNeverFault g
 HasFault (request.Reach r) g = HasReachFault g r
 HasFault (request.Possible r) g = HasPossibleFault g r
@@ -85,7 +86,7 @@ Breaks (Check file warns) g old new =
     Checks warns g (PutsPrefix old.out new.out) × (new.save ≡ old.save) × IsReported g old.err new.err fault.Write
 Breaks (Causes list after upto) g old new = BreaksCauses g list after upto old new × (new.save ≡ old.save)
 Breaks (request.Progress list after upto) g old new = BreaksProgress g list after upto old new × (new.save ≡ old.save)
-Breaks (Held list scans every grouped) g old new = BreaksHeldBy grouped g list (scans_of scans every) old new × (new.save ≡ old.save)
+Breaks (Held list scans every grouped) g old new = BreaksAllHeld grouped g list (scans_of scans every) old new × (new.save ≡ old.save)
 Breaks (request.Never r) g old new = BreaksNever r.excluded g r old new × (new.save ≡ old.save)
 Breaks (request.Reach r) g old new = BreaksReach g r old new × (new.save ≡ old.save)
 Breaks (request.Possible r) g old new = BreaksPossible g r old new × (new.save ≡ old.save)

@@ -186,6 +186,7 @@ fn check_held(
     coil: &String,
 ) -> Result<(), ToolFault> {
     let named = named_in(alloc, list, setting, coil)?;
+    check_assumed(alloc, list, setting)?;
     if grouped && is_too_wide(&named) {
         return Err(ToolFault::Cause(CauseFault::TooManyFree));
     }

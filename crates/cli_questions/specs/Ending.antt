@@ -31,6 +31,7 @@ abbrev pub counts_line : ListCounts → List ℕ
 counts_line (counts.Rows rows) = held_line rows
 counts_line (counts.Causes s) = codes "rows " ++ (decimal s.rows ++ (codes " looks " ++ (decimal s.looks ++ codes "\n")))
 counts_line (counts.Groups s) = codes "rows " ++ (decimal s.rows ++ (codes " causes " ++ (decimal s.causes ++ codes "\n")))
+counts_line (counts.AssumedRows rows assumed) = codes "rows " ++ (decimal rows ++ assumed_end assumed)
 counts_line (counts.AssumedCauses s assumed) = codes "rows " ++ (decimal s.rows ++ (codes " looks " ++ (decimal s.looks ++ assumed_end assumed)))
 counts_line (counts.AssumedGroups s assumed) = codes "rows " ++ (decimal s.rows ++ (codes " causes " ++ (decimal s.causes ++ assumed_end assumed)))
 counts_line (counts.Possible rows unsettled) = codes "rows " ++ (decimal rows ++ (codes " unsettled " ++ (decimal unsettled ++ codes "\n")))

@@ -53,15 +53,10 @@ const CAUSES: &[Rule] = &[
             Term::Place("inputs", "INPUT"),
         ],
     ),
-    // What is assumed is of one scan and of the inputs that are listed, and no line tells how far such a list is.
+    // What is assumed is of the inputs that are listed, and no line tells how far such a list is.
     Rule::Excludes(
         &[Term::Valued("assume")],
-        &[
-            Term::Valued("scans"),
-            Term::Valued("for"),
-            Term::Flag("relevant"),
-            Term::Flag("progress"),
-        ],
+        &[Term::Flag("relevant"), Term::Flag("progress")],
     ),
     // With `--all-coils` no coil is named, so what is in its place is the first input.
     Rule::Excludes(

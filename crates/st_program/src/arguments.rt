@@ -57,38 +57,34 @@ fn nothing_given() -> Given
 fn with_argument(argument: Argument, given: Given) -> Option<Given>
     ensures { IfSome result (λ g. with_argument argument given ≡ Some g) }
 {
-    let Given {
-        first,
-        second,
-        preset,
-        output,
-    } = given;
-    match (argument, first, second, preset, output) {
-        (Argument::First(e), None, second, preset, output) => Some(Given {
-            first: Some(e),
-            second,
-            preset,
-            output,
-        }),
-        (Argument::Second(e), first, None, preset, output) => Some(Given {
-            first,
-            second: Some(e),
-            preset,
-            output,
-        }),
-        (Argument::Preset(literal), first, second, None, output) => Some(Given {
-            first,
-            second,
+    match argument {
+        Argument::First(e) if given.first.is_none() => {
+            drop(given.first);
+            Some(Given {
+                first: Some(e),
+                ..given
+            })
+        }
+        Argument::Second(e) if given.second.is_none() => {
+            drop(given.second);
+            Some(Given {
+                second: Some(e),
+                ..given
+            })
+        }
+        Argument::Preset(literal) if given.preset.is_none() => Some(Given {
             preset: Some(literal),
-            output,
+            ..given
         }),
-        (Argument::Output(copied), first, second, preset, None) => Some(Given {
-            first,
-            second,
-            preset,
+        Argument::Output(copied) if given.output.is_none() => Some(Given {
             output: Some(copied),
+            ..given
         }),
-        _ => None,
+        other => {
+            drop(other);
+            drop(given);
+            None
+        }
     }
 }
 
@@ -196,13 +192,20 @@ pub(crate) fn arguments_at(
     let at = first_item(items).map(|x| x.0.word.start);
     let (argument, behind) = argument_at(alloc, callee, items)?;
     match after(Mark::Comma, behind) {
-        Some(others) => {
-            let (given, rest) = arguments_at(alloc, callee, others)?;
-            Ok((add_argument(argument, given, at)?, rest))
-        }
-        None => {
-            let rest = expect(Mark::Close, behind)?;
-            Ok((add_argument(argument, nothing_given(), at)?, rest))
-        }
+        // The argument is dropped before a fault is returned: a `?` would drop it by its forms.
+        Some(others) => match arguments_at(alloc, callee, others) {
+            Ok((given, rest)) => Ok((add_argument(argument, given, at)?, rest)),
+            Err(fault) => {
+                drop(argument);
+                Err(fault)
+            }
+        },
+        None => match expect(Mark::Close, behind) {
+            Ok(rest) => Ok((add_argument(argument, nothing_given(), at)?, rest)),
+            Err(fault) => {
+                drop(argument);
+                Err(fault)
+            }
+        },
     }
 }

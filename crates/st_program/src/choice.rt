@@ -164,12 +164,12 @@ pub(crate) fn numbers_at<'a>(
     ensures shorter { IfOk result (λ x. length x.1.now < length items.now) }
 {
     let (_, number, behind) = number_at(items, Expected::Number)?;
-    let one = equals(values, integer, number);
     let Some(others) = after(Mark::Comma, behind) else {
         let rest = expect(Mark::Colon, behind)?;
-        return Ok((one, rest));
+        return Ok((equals(values, integer, number), rest));
     };
     let (other, rest) = numbers_at(alloc, values, integer, others)?;
+    let one = equals(values, integer, number);
     Ok((either(alloc, one, other)?, rest))
 }
 

@@ -185,9 +185,24 @@ fn body_of(
     let mut notes = Vec::new(alloc);
     let (statements, rest) = statements_at(alloc, values, items, &mut notes)?;
     if !is_ending(rest) {
+        drop(statements);
         return Err(fault_at(rest, Expected::End));
     }
     Ok((statements, notes))
+}
+
+/// The blocks with their presets, and the words that statements begin with.
+fn lists_of(
+    alloc: Global,
+    blocks: &[Block],
+    notes: &[Note],
+) -> Result<(Vec<StInstance>, Vec<Word>), Refusal>
+    ensures instances { IfOk result (λ x. x.0.items ≡ instances_from notes.now 0 blocks.now) }
+    ensures places { IfOk result (λ x. x.1.items ≡ map (λ note. note.word) notes.now) }
+{
+    let instances = instances_of(alloc, blocks, notes)?;
+    let places = places_of(alloc, notes)?;
+    Ok((instances, places))
 }
 
 /// The program of some words.
@@ -200,14 +215,19 @@ fn program_of(alloc: Global, text: &[u8], words: &[Word]) -> Result<StProgram, R
     let items = items_of(alloc, text, &symbols, &values, body)?;
     let (statements, notes) = body_of(alloc, &values, &items)?;
     let Symbols { variables, blocks } = symbols;
-    let instances = instances_of(alloc, &blocks, &notes)?;
-    let places = places_of(alloc, &notes)?;
-    Ok(StProgram {
-        variables,
-        instances,
-        statements,
-        places,
-    })
+    match lists_of(alloc, &blocks, &notes) {
+        Ok((instances, places)) => Ok(StProgram {
+            variables,
+            instances,
+            statements,
+            places,
+        }),
+        // A `?` would drop the statements by their forms.
+        Err(fault) => {
+            drop(statements);
+            Err(fault)
+        }
+    }
 }
 
 /// The program of a text in Structured Text.

@@ -1,9 +1,12 @@
 //! Statements but IF.
 
-ghost use Rattle.std.specs.Prelude.{◌≡◌, ◌∷◌, ◌<◌, false, Some, length, IfOk, OnOk};
-ghost use Rattle.st_program.specs.Statements.{Copies, IsCall, IsClock, IsSimple, agreed, second_of, settled, settled_by, value_as};
+ghost use Rattle.std.specs.Prelude.{◌≡◌, ◌∷◌, ◌<◌, List, false, Some, length, IfOk, OnOk};
+ghost use Rattle.st_program.specs.Notes.{Adds, noted};
+ghost use Rattle.st_program.specs.Statements.{Copies, Has, IsCall, IsClock, IsSimple, agreed, second_of, settled, settled_by, value_as};
 ghost use Rattle.st_program.specs.declared.item.Named.TheVariants as Named;
 ghost use Rattle.st_program.specs.declared.mark.Mark.TheVariants as Mark;
+ghost use Rattle.st_program.specs.declared.notes.Called.TheVariants as Called;
+ghost use Rattle.st_program.specs.declared.notes.Note.{Note};
 
 use crate::arguments::{Copied, Given, arguments_at};
 use crate::expressions::{expect, expression_at, fault_at, first_item};
@@ -14,6 +17,7 @@ use crate::mark::{Mark, is_mark};
 use crate::notes::{Called, Note, add_note, has_block, has_trigger, triggers};
 use diagram_declarations::{BlockKind, Parameter};
 use st_expression::Expression;
+use st_words::Word;
 use std::alloc::Global;
 
 /// A statement but IF.
@@ -83,19 +87,6 @@ fn clock_of(alloc: Global, falling: bool, clock: Expression) -> Result<Expressio
     }
 }
 
-/// The first input of a call.
-fn needed(first: Option<Expression>, at: Option<usize>) -> Result<Expression, Refusal>
-    ensures { IfOk result (λ e. first ≡ Some e) }
-{
-    match first {
-        Some(expression) => Ok(expression),
-        None => Err(Refusal::Due {
-            at,
-            expected: Expected::Argument,
-        }),
-    }
-}
-
 /// The second input of a block, FALSE where it isn't given.
 fn second_of(second: Option<Expression>) -> Expression
     ensures { result ≡ second_of second }
@@ -103,6 +94,24 @@ fn second_of(second: Option<Expression>) -> Expression
     match second {
         Some(expression) => expression,
         None => Expression::Constant(false),
+    }
+}
+
+/// The first input of a call, and the second one, FALSE where it isn't given.
+fn inputs_of(given: Given, at: Option<usize>) -> Result<(Expression, Expression), Refusal>
+    ensures first { IfOk result (λ x. given.first ≡ Some x.0) }
+    ensures second { IfOk result (λ x. x.1 ≡ second_of given.second) }
+{
+    let Given { first, second, .. } = given;
+    match first {
+        Some(first) => Ok((first, second_of(second))),
+        None => {
+            drop(second);
+            Err(Refusal::Due {
+                at,
+                expected: Expected::Argument,
+            })
+        }
     }
 }
 
@@ -114,6 +123,30 @@ fn note_copy(notes: &mut Vec<Note>, output: Option<Copied>) -> Result<(), Refusa
         Some(copied) => add_note(notes, copied.word, Called::Nothing),
         None => Ok(()),
     }
+}
+
+/// Notes a call, and that its output is copied to a variable, where it is.
+fn note_call(
+    notes: &mut Vec<Note>,
+    word: Word,
+    called: Called,
+    output: Option<Copied>,
+) -> Result<(), Refusal>
+    ensures { OnOk result ((between : List Note) × Adds notes.old.items (noted word called) between × Copies output between notes.new.items) }
+{
+    add_note(notes, word, called)?;
+    note_copy(notes, output)
+}
+
+/// Notes a statement that calls nothing. Returns what is behind its semicolon.
+fn end_of<'a>(word: Word, items: &'a [Item], notes: &mut Vec<Note>) -> Result<&'a [Item], Refusal>
+    ensures ends { IfOk result (λ rest. Has Mark.Semicolon items.now rest.now) }
+    ensures notes { OnOk result (Adds notes.old.items (noted word Called.Nothing) notes.new.items) }
+    ensures shorter { IfOk result (λ rest. length rest.now < length items.now) }
+{
+    let rest = expect(Mark::Semicolon, items)?;
+    add_note(notes, word, Called::Nothing)?;
+    Ok(rest)
 }
 
 /// The rest of an assignment to a variable, and what is behind it.
@@ -130,9 +163,14 @@ fn assign_at<'a>(
 {
     let behind = expect(Mark::Becomes, items)?;
     let (value, end) = expression_at(alloc, behind)?;
-    let rest = expect(Mark::Semicolon, end)?;
-    add_note(notes, item.word, Called::Nothing)?;
-    Ok((Simple::Assign { variable, value }, None, rest))
+    match end_of(item.word, end, notes) {
+        Ok(rest) => Ok((Simple::Assign { variable, value }, None, rest)),
+        // A `?` would drop the value by its forms.
+        Err(fault) => {
+            drop(value);
+            Err(fault)
+        }
+    }
 }
 
 /// What is behind a RETURN.
@@ -145,8 +183,7 @@ fn return_at<'a>(
     ensures simple { IfOk result (λ x. IsSimple (item ∷ items.now) x.2.now notes.old.items notes.new.items x.0 x.1) }
     ensures shorter { IfOk result (λ x. length x.2.now < length items.now) }
 {
-    let rest = expect(Mark::Semicolon, items)?;
-    add_note(notes, item.word, Called::Nothing)?;
+    let rest = end_of(item.word, items, notes)?;
     Ok((Simple::Return, None, rest))
 }
 
@@ -157,8 +194,13 @@ fn call_at(alloc: Global, callee: Callee, items: &[Item]) -> Result<(Given, &[It
 {
     let inside = expect(Mark::Open, items)?;
     let (given, end) = arguments_at(alloc, callee, inside)?;
-    let rest = expect(Mark::Semicolon, end)?;
-    Ok((given, rest))
+    match expect(Mark::Semicolon, end) {
+        Ok(rest) => Ok((given, rest)),
+        Err(fault) => {
+            drop(given);
+            Err(fault)
+        }
+    }
 }
 
 /// The rest of a call of a trigger, and what is behind it.
@@ -179,17 +221,26 @@ fn trigger_at<'a>(
         return Err(Refusal::Call { at });
     }
     let (given, rest) = call_at(alloc, Callee::Trigger, items)?;
-    let Given { first, output, .. } = given;
-    let clock = clock_of(alloc, falling, needed(first, at)?)?;
+    let output = given.output;
+    let (first, second) = inputs_of(given, at)?;
+    // A trigger has no second input.
+    drop(second);
+    let clock = clock_of(alloc, falling, first)?;
     let memory = triggers(notes);
-    add_note(notes, item.word, Called::Trigger(number))?;
-    note_copy(notes, output)?;
-    let simple = Simple::Trigger {
-        output: number,
-        memory,
-        clock,
-    };
-    Ok((simple, output, rest))
+    match note_call(notes, item.word, Called::Trigger(number), output) {
+        Ok(()) => {
+            let simple = Simple::Trigger {
+                output: number,
+                memory,
+                clock,
+            };
+            Ok((simple, output, rest))
+        }
+        Err(fault) => {
+            drop(clock);
+            Err(fault)
+        }
+    }
 }
 
 /// What a block is declared as.
@@ -218,25 +269,27 @@ fn block_at<'a>(
         return Err(Refusal::Call { at });
     }
     let (given, rest) = call_at(alloc, Callee::Block(block.kind), items)?;
-    let Given {
-        first,
-        second,
-        preset,
-        output,
-    } = given;
-    let Some(preset) = settled(block.kind, block.preset, preset) else {
+    let output = given.output;
+    let Some(preset) = settled(block.kind, block.preset, given.preset) else {
+        drop(given);
         return Err(Refusal::Call { at });
     };
-    let second = second_of(second);
-    let first = needed(first, at)?;
-    add_note(notes, item.word, Called::Block { number, preset })?;
-    note_copy(notes, output)?;
-    let simple = Simple::Call {
-        instance: number,
-        first,
-        second,
-    };
-    Ok((simple, output, rest))
+    let (first, second) = inputs_of(given, at)?;
+    match note_call(notes, item.word, Called::Block { number, preset }, output) {
+        Ok(()) => {
+            let simple = Simple::Call {
+                instance: number,
+                first,
+                second,
+            };
+            Ok((simple, output, rest))
+        }
+        Err(fault) => {
+            drop(first);
+            drop(second);
+            Err(fault)
+        }
+    }
 }
 
 /// A statement but IF, the variable that its output is copied to, and what is behind it.

@@ -3,8 +3,9 @@
 ghost use Rattle.std.specs.Prelude.{◌≡◌, ◌≤◌, ◌<◌, List, Option, length, IfOk};
 ghost use Rattle.st_integers.specs.declared.value.IntegerValue.{IntegerValue};
 ghost use Rattle.st_statements.specs.declared.statement.StatementList.{StatementList};
-ghost use Rattle.st_program.specs.Statements.{Body, Choices, Condition, IsSelect, Otherwise, Reads, WithCopy, WithSimple, source_of};
+ghost use Rattle.st_program.specs.Statements.{Body, Choices, Condition, Has, IsSelect, Otherwise, Reads, WithCopy, WithSimple, source_of};
 ghost use Rattle.st_program.specs.declared.item.Item.{Item};
+ghost use Rattle.st_program.specs.declared.mark.Mark.TheVariants as Mark;
 ghost use Rattle.st_program.specs.declared.notes.Note.{Note};
 
 use crate::arguments::Copied;
@@ -32,6 +33,13 @@ fn source_of(simple: &Simple) -> Operand
     }
 }
 
+/// Statements in memory of their own.
+fn boxed(alloc: Global, list: StatementList) -> Result<Box<StatementList>, Refusal>
+    ensures { IfOk result (λ b. b.value ≡ list) }
+{
+    Ok(Box::new(alloc, list)?)
+}
+
 /// The statements behind a copy of an output, where it is copied.
 fn with_copy(
     alloc: Global,
@@ -45,7 +53,7 @@ fn with_copy(
         Some(copied) => Ok(StatementList::Assign {
             variable: copied.variable,
             value: Expression::Operand(source),
-            next: Box::new(alloc, others)?,
+            next: boxed(alloc, others)?,
         }),
         None => Ok(others),
     }
@@ -59,7 +67,11 @@ fn with_simple(
 ) -> Result<StatementList, Refusal>
     ensures { IfOk result (WithSimple simple others) }
 {
-    let next = Box::new(alloc, others)?;
+    // What is owned is dropped before a fault is returned: a `?` would drop each tree by its forms.
+    let Ok(next) = boxed(alloc, others) else {
+        drop(simple);
+        return Err(Refusal::Memory);
+    };
     Ok(match simple {
         Simple::Assign { variable, value } => StatementList::Assign {
             variable,
@@ -100,17 +112,12 @@ fn joined(
     ensures { IfOk result (λ whole. (copied : StatementList) × WithCopy (source_of simple) copy others copied × WithSimple simple copied whole) }
 {
     let source = source_of(&simple);
-    let copied = with_copy(alloc, source, copy, others)?;
-    with_simple(alloc, simple, copied)
-}
-
-/// Statements in memory of their own.
-fn boxed(alloc: Global, list: StatementList) -> Result<Box<StatementList>, Refusal>
-    ensures { IfOk result (λ b. b.value ≡ list) }
-{
-    match Box::new(alloc, list) {
-        Ok(list) => Ok(list),
-        Err(_) => Err(Refusal::Memory),
+    match with_copy(alloc, source, copy, others) {
+        Ok(copied) => with_simple(alloc, simple, copied),
+        Err(fault) => {
+            drop(simple);
+            Err(fault)
+        }
     }
 }
 
@@ -124,7 +131,6 @@ fn select(
 ) -> Result<StatementList, Refusal>
     ensures { IfOk result (IsSelect condition accepted otherwise others) }
 {
-    // What is owned is dropped before a fault is returned: a `?` would drop each tree by its forms.
     let accepted = match boxed(alloc, accepted) {
         Ok(accepted) => accepted,
         Err(fault) => {
@@ -179,8 +185,13 @@ fn condition_at<'a>(
     }
     add_note(notes, item.word, Called::Nothing)?;
     let (condition, end) = expression_at(alloc, behind)?;
-    let rest = expect(Mark::Then, end)?;
-    Ok((condition, rest))
+    match expect(Mark::Then, end) {
+        Ok(rest) => Ok((condition, rest)),
+        Err(fault) => {
+            drop(condition);
+            Err(fault)
+        }
+    }
 }
 
 /// What is behind semicolons with nothing before them.
@@ -248,8 +259,13 @@ pub(crate) fn statements_at<'a>(
         }
         Start::Simple => {
             let (simple, copy, behind) = simple_at(alloc, begun, notes)?;
-            let (others, rest) = statements_at(alloc, values, behind, notes)?;
-            Ok((joined(alloc, simple, copy, others)?, rest))
+            match statements_at(alloc, values, behind, notes) {
+                Ok((others, rest)) => Ok((joined(alloc, simple, copy, others)?, rest)),
+                Err(fault) => {
+                    drop(simple);
+                    Err(fault)
+                }
+            }
         }
     }
 }
@@ -266,11 +282,67 @@ fn select_at<'a>(
     ensures shorter { IfOk result (λ x. length x.1.now < length items.now) }
 {
     let (condition, arm) = condition_at(alloc, Mark::If, items, notes)?;
-    let (accepted, other) = statements_at(alloc, values, arm, notes)?;
-    let (otherwise, end) = otherwise_at(alloc, values, other, notes)?;
-    let behind = expect(Mark::Semicolon, end)?;
-    let (others, rest) = statements_at(alloc, values, behind, notes)?;
-    Ok((select(alloc, condition, accepted, otherwise, others)?, rest))
+    let (accepted, other) = match statements_at(alloc, values, arm, notes) {
+        Ok(read) => read,
+        Err(fault) => {
+            drop(condition);
+            return Err(fault);
+        }
+    };
+    match otherwise_at(alloc, values, other, notes) {
+        Ok((otherwise, end)) => {
+            let (whole, rest) = with_others(
+                alloc, values, condition, accepted, otherwise, end, notes,
+            )?;
+            Ok((whole, rest))
+        }
+        Err(fault) => {
+            drop(condition);
+            drop(accepted);
+            Err(fault)
+        }
+    }
+}
+
+/// The statements behind a semicolon, and what is behind them.
+#[cycle(statements)]
+fn others_at<'a>(
+    alloc: Global,
+    values: &[Option<IntegerValue>],
+    items: &'a [Item],
+    notes: &mut Vec<Note>,
+) -> Result<(StatementList, &'a [Item]), Refusal>
+    ensures reads { IfOk result (λ x. (behind : List Item) × Has Mark.Semicolon items.now behind × Reads values.now Body behind x.1.now notes.old.items notes.new.items x.0) }
+    ensures shorter { IfOk result (λ x. length x.1.now < length items.now) }
+{
+    let behind = expect(Mark::Semicolon, items)?;
+    statements_at(alloc, values, behind, notes)
+}
+
+/// An IF before the statements behind its semicolon, and what is behind them.
+#[cycle(statements)]
+fn with_others<'a>(
+    alloc: Global,
+    values: &[Option<IntegerValue>],
+    condition: Expression,
+    accepted: StatementList,
+    otherwise: StatementList,
+    items: &'a [Item],
+    notes: &mut Vec<Note>,
+) -> Result<(StatementList, &'a [Item]), Refusal>
+    ensures reads { IfOk result (λ x. (behind : List Item) × (others : StatementList) × Has Mark.Semicolon items.now behind
+        × Reads values.now Body behind x.1.now notes.old.items notes.new.items others × IsSelect condition accepted otherwise others x.0) }
+    ensures shorter { IfOk result (λ x. length x.1.now < length items.now) }
+{
+    match others_at(alloc, values, items, notes) {
+        Ok((others, rest)) => Ok((select(alloc, condition, accepted, otherwise, others)?, rest)),
+        Err(fault) => {
+            drop(condition);
+            drop(accepted);
+            drop(otherwise);
+            Err(fault)
+        }
+    }
 }
 
 /// What is run where a condition is FALSE, up to END_IF, and what is behind that.
@@ -288,15 +360,50 @@ fn otherwise_at<'a>(
         return Ok((StatementList::End, rest));
     }
     if let Some(arm) = after(Mark::Else, items) {
-        let (all, end) = statements_at(alloc, values, arm, notes)?;
-        let rest = expect(Mark::EndIf, end)?;
+        let (all, rest) = last_at(alloc, values, Mark::EndIf, arm, notes)?;
         return Ok((all, rest));
     }
     let (condition, arm) = condition_at(alloc, Mark::Elsif, items, notes)?;
-    let (accepted, other) = statements_at(alloc, values, arm, notes)?;
-    let (otherwise, rest) = otherwise_at(alloc, values, other, notes)?;
-    let whole = select(alloc, condition, accepted, otherwise, StatementList::End)?;
-    Ok((whole, rest))
+    let (accepted, other) = match statements_at(alloc, values, arm, notes) {
+        Ok(read) => read,
+        Err(fault) => {
+            drop(condition);
+            return Err(fault);
+        }
+    };
+    match otherwise_at(alloc, values, other, notes) {
+        Ok((otherwise, rest)) => {
+            let whole = select(alloc, condition, accepted, otherwise, StatementList::End)?;
+            Ok((whole, rest))
+        }
+        Err(fault) => {
+            drop(condition);
+            drop(accepted);
+            Err(fault)
+        }
+    }
+}
+
+/// The statements behind ELSE up to the word that ends an IF or a CASE, and what is behind that.
+#[cycle(statements)]
+fn last_at<'a>(
+    alloc: Global,
+    values: &[Option<IntegerValue>],
+    mark: Mark,
+    items: &'a [Item],
+    notes: &mut Vec<Note>,
+) -> Result<(StatementList, &'a [Item]), Refusal>
+    ensures reads { IfOk result (λ x. (end : List Item) × Reads values.now Body items.now end notes.old.items notes.new.items x.0 × Has mark end x.1.now) }
+    ensures shorter { IfOk result (λ x. length x.1.now < length items.now) }
+{
+    let (all, end) = statements_at(alloc, values, items, notes)?;
+    match expect(mark, end) {
+        Ok(rest) => Ok((all, rest)),
+        Err(fault) => {
+            drop(all);
+            Err(fault)
+        }
+    }
 }
 
 /// A CASE and the statements behind it, and what is behind them.
@@ -312,11 +419,26 @@ fn choose_at<'a>(
 {
     let (integer, numbers) = selector_at(items, notes)?;
     let (condition, arm) = numbers_at(alloc, values, integer, numbers)?;
-    let (accepted, other) = statements_at(alloc, values, arm, notes)?;
-    let (otherwise, end) = choices_at(alloc, values, integer, other, notes)?;
-    let behind = expect(Mark::Semicolon, end)?;
-    let (others, rest) = statements_at(alloc, values, behind, notes)?;
-    Ok((select(alloc, condition, accepted, otherwise, others)?, rest))
+    let (accepted, other) = match statements_at(alloc, values, arm, notes) {
+        Ok(read) => read,
+        Err(fault) => {
+            drop(condition);
+            return Err(fault);
+        }
+    };
+    match choices_at(alloc, values, integer, other, notes) {
+        Ok((otherwise, end)) => {
+            let (whole, rest) = with_others(
+                alloc, values, condition, accepted, otherwise, end, notes,
+            )?;
+            Ok((whole, rest))
+        }
+        Err(fault) => {
+            drop(condition);
+            drop(accepted);
+            Err(fault)
+        }
+    }
 }
 
 /// What is run where an INT has none of the numbers before, up to END_CASE, and what is behind that.
@@ -335,13 +457,26 @@ fn choices_at<'a>(
         return Ok((StatementList::End, rest));
     }
     if let Some(arm) = after(Mark::Else, items) {
-        let (all, end) = statements_at(alloc, values, arm, notes)?;
-        let rest = expect(Mark::EndCase, end)?;
+        let (all, rest) = last_at(alloc, values, Mark::EndCase, arm, notes)?;
         return Ok((all, rest));
     }
     let (condition, arm) = labels_at(alloc, values, integer, items, notes)?;
-    let (accepted, other) = statements_at(alloc, values, arm, notes)?;
-    let (otherwise, rest) = choices_at(alloc, values, integer, other, notes)?;
-    let whole = select(alloc, condition, accepted, otherwise, StatementList::End)?;
-    Ok((whole, rest))
+    let (accepted, other) = match statements_at(alloc, values, arm, notes) {
+        Ok(read) => read,
+        Err(fault) => {
+            drop(condition);
+            return Err(fault);
+        }
+    };
+    match choices_at(alloc, values, integer, other, notes) {
+        Ok((otherwise, rest)) => {
+            let whole = select(alloc, condition, accepted, otherwise, StatementList::End)?;
+            Ok((whole, rest))
+        }
+        Err(fault) => {
+            drop(condition);
+            drop(accepted);
+            Err(fault)
+        }
+    }
 }

@@ -3,7 +3,7 @@ use Rattle.st_program.proofs.choice.+numbers_at.Goals as goal
 
 pub returns-in_default-clause-numbers : goal.returns-in_default-clause-numbers
 returns-in_default-clause-numbers t c =
-    number_last _ _ _ _ _ _ _ _ c.in_ok-number.ensures.first c.in_ok-number.ensures.number c.in_ok-rest.ensures.has c.equals-one.ensures
+    number_last _ _ _ _ _ _ _ _ c.in_ok-number.ensures.first c.in_ok-number.ensures.number c.in_ok-rest.ensures.has c.equals.ensures
 
 pub returns-clause-numbers : goal.returns-clause-numbers
 returns-clause-numbers t c =
