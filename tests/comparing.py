@@ -523,16 +523,21 @@ def compare_reachable(trial):
     return found
 
 
+def told_by(table, listed, some):
+    """Of each assignment of some of the listed inputs, what the table has for those of all of them that have it."""
+    shifts, told = [len(listed) - 1 - listed.index(name) for name in some], {}
+    for number, is_on in enumerate(table):
+        told.setdefault(tuple(number >> shift & 1 for shift in shifts), set()).add(is_on)
+    return told
+
+
 def compare_relevant(trial):
     """A list over the inputs that matter tells of each assignment of all inputs whether it is a cause, and is the list over these."""
     lanes, moment, words = begun(trial, trial.chance.choice(SORTS))
     table = lanes.table(trial.coil, trial.listed, moment)
     out, err, status = trial.ask("causes", "--relevant", *words, "program.ld", trial.coil)
     relevant = out.decode().split("\n", 1)[0].split(",")[1:]
-    shifts = [len(trial.listed) - 1 - [name.upper() for name in trial.listed].index(name.upper()) for name in relevant]
-    told = {}
-    for number, is_on in enumerate(table):
-        told.setdefault(tuple(number >> shift & 1 for shift in shifts), set()).add(is_on)
+    told = told_by(table, [name.upper() for name in trial.listed], [name.upper() for name in relevant])
     found = [f"{bits} of {relevant} decide nothing" for bits, both in told.items() if len(both) > 1]
     for form in ((), trial.chance.choice([*FORMS])):
         asked = ["causes", *(["--grouped", *form] if form or trial.chance.random() < 0.5 else []), *words]

@@ -1,5 +1,5 @@
 -- Whether some combination makes true what is assumed.
-use Rattle.std.specs.Prelude.{◌≡◌, ◌<◌, ◌≤◌, ◌^◌, ◌+◌, ℕ, true, false, List, Some}
+use Rattle.std.specs.Prelude.{◌≡◌, ◌<◌, ◌≤◌, ◌^◌, ◌&&◌, ℕ, true, false, List, Some}
 use Rattle.st_expression.specs.declared.expression.Expression.{Expression}
 use Rattle.causes_query.specs.Sources.{image_of}
 use Rattle.causes_query.specs.declared.source.InputSource.{InputSource}
@@ -14,6 +14,16 @@ IsPossible assumed sources bits = (n : ℕ) × (n < 2 ^ bits) × (is_allowed (So
 -- With none of them it is.
 abbrev pub IsImpossible : Expression → List InputSource → ℕ → Type 0
 IsImpossible assumed sources bits = (n : ℕ) → n < 2 ^ bits → is_allowed (Some assumed) (image_of n sources) ≡ false
+
+-- With the combination of one of the numbers the old one is true over the inputs of the old program, and the new one over those of the new program.
+abbrev pub IsPossibleInBoth : Expression → List InputSource → Expression → List InputSource → ℕ → Type 0
+IsPossibleInBoth old old_sources new new_sources bits =
+    (n : ℕ) × (n < 2 ^ bits) × (is_allowed (Some old) (image_of n old_sources) ≡ true) × (is_allowed (Some new) (image_of n new_sources) ≡ true)
+
+-- With none of them both are.
+abbrev pub IsImpossibleInBoth : Expression → List InputSource → Expression → List InputSource → ℕ → Type 0
+IsImpossibleInBoth old old_sources new new_sources bits =
+    (n : ℕ) → n < 2 ^ bits → (is_allowed (Some old) (image_of n old_sources) && is_allowed (Some new) (image_of n new_sources)) ≡ false
 
 -- ---- the search: every number is chosen, and a look settles each prefix
 

@@ -1,7 +1,9 @@
-//! Whether some combination of the listed inputs makes true what is assumed of the inputs.
+//! Whether some combination of the listed inputs makes true what is assumed of the inputs, of one program or of two.
 #![tactic(auto)]
 
 mod every;
+mod in_both;
 mod possible;
 
+pub use in_both::is_possible_in_both;
 pub use possible::is_possible;

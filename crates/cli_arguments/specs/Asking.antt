@@ -252,7 +252,6 @@ Asks name rows (Causes list after upto) = (name ≡ codes "causes") × NamesCaus
 Asks name rows (Progress list after upto) = (name ≡ codes "causes")
     × NamesCauses rows list after upto
     × HasFlag (codes "progress") rows
-    × HasOption (codes "assume") rows None
 Asks name rows (Held list scans every grouped) = (name ≡ codes "causes")
     × HasSwitch (codes "grouped") rows grouped
     × HasForm Table rows
@@ -312,7 +311,6 @@ Asks name rows (Relevant list after grouping) = (name ≡ codes "causes")
     × IsOfOneState rows
     × HasNumber (codes "upto") rows None
     × (HasFlag (codes "progress") rows → ⊥)
-    × HasOption (codes "assume") rows None
 Asks name rows (Never r) = (name ≡ codes "never")
     × HasOption (codes "state") rows (option_map string_bytes r.state)
     × HasExcluded r.excluded rows

@@ -142,10 +142,6 @@ fn list_request(alloc: Global, found: &ArgMatches<'_>) -> Result<Request, WordFa
         return Err(WordFault::Usage);
     }
     let told = is_set(found, "progress");
-    // No line tells how far a list is for which something is assumed.
-    if told && assumes(found) {
-        return Err(WordFault::Usage);
-    }
     let after = number(found, "after")?;
     let upto = number(found, "upto")?;
     let list = list_of(alloc, found)?;
@@ -172,10 +168,6 @@ fn relevant_request(alloc: Global, found: &ArgMatches<'_>) -> Result<Request, Wo
     }
     // Their list has no part, and no line tells how far it is.
     if names_end(found) {
-        return Err(WordFault::Usage);
-    }
-    // What is assumed is of inputs that are listed.
-    if assumes(found) {
         return Err(WordFault::Usage);
     }
     if is_set(found, "grouped") {

@@ -51,7 +51,6 @@ pub(crate) fn relevant_groups(alloc: Global, found: &ArgMatches<'_>) -> Result<R
     requires inputs { HasInputs (rows_of (found_of found.now)) false [] }
     requires single { IsSingle (rows_of (found_of found.now)) }
     requires whole { NamesNoEnd (rows_of (found_of found.now)) }
-    requires unassumed { HasOption (codes "assume") (rows_of (found_of found.now)) None }
     requires grouped { HasFlag (codes "grouped") (rows_of (found_of found.now)) }
     ensures ok { IfOk result (Asks (codes "causes") (rows_of (found_of found.now))) }
     ensures err { IfErr result (UsageWhere (AsksNone (codes "causes") (rows_of (found_of found.now)))) }

@@ -3,12 +3,11 @@ use Rattle.std.proofs.Common.{◌≡◌, ◌∙◌, ap, refl, sym, inl, inr, ℕ
 use Rattle.std.specs.Prelude.{None, option_map}
 use Rattle.diagram_program.specs.Program.{Drawing}
 use Rattle.causes_query.specs.declared.fault.CauseFault.TheVariants as cause
-use Rattle.causes_query.specs.Causes.{Question, causes_after, is_cause}
+use Rattle.causes_query.specs.Causes.{Question}
 use Rattle.causes_query.specs.Refusal.{refusal}
-use Rattle.causes_one_scan.specs.Cursor.{Cursor, first_number, looks_of, searched}
+use Rattle.causes_one_scan.specs.Cursor.{Cursor, looks_of, searched}
 use Rattle.causes_one_scan.specs.GroupCursor.{GroupCursor, causes_in, rows_left}
 use Rattle.causes_one_scan.specs.Order.{RefusedInAnyOrder, SiftedIsPermutation, sifted}
-use Rattle.causes_one_scan.specs.Prefixes.{search_of}
 use Rattle.search_tree.specs.Looks.{Search}
 use Rattle.search_groups.specs.Groups.{rows}
 use Rattle.search_groups.specs.Classes.{numbers_in}
@@ -33,9 +32,8 @@ use Rattle.text_lists.specs.HeldText.{held_text}
 use Rattle.cli_arguments.specs.declared.request.GroupFormat.{GroupFormat}
 use Rattle.cli_arguments.specs.declared.request.InputOrder.{InputOrder}
 use Rattle.cli_arguments.specs.declared.request.InputOrder.TheVariants as order
-use Rattle.cli_questions.specs.declared.counting.ListCounts.TheVariants as counts
 use Rattle.cli_questions.specs.Forms.{form_on}
-use Rattle.cli_lists.specs.Lists.{IsFirstFault, cause_counts, causes_text, group_counts, groups_text, held_fault, held_group_fault, ordered}
+use Rattle.cli_lists.specs.Lists.{IsFirstFault, held_fault, held_group_fault, ordered}
 
 -- ---- a list of causes
 

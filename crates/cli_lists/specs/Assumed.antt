@@ -63,10 +63,13 @@ Assuming texts Is q text c = (assumed : Option Expression) × AreAssumptions q.p
 abbrev pub AssumedFault : Option Expression → (Question → ToolFault → Type 0) → Question → ToolFault → Type 0
 AssumedFault assumed Refused q f = Refused q f ⊎ ((f ≡ fault.NeverTrue) × IsNeverTrue assumed q)
 
--- Faults are looked for in the expressions first.
+-- Faults are looked for in the expressions first, and then in what is asked with them.
+abbrev pub AfterReading : (texts : List (List ℕ)) → (Option Expression → Question → ToolFault → Type 0) → Question → ToolFault → Type 0
+AfterReading texts Refused q f = HasAssumptionFault q.program.decls texts f
+    ⊎ ((assumed : Option Expression) × AreAssumptions q.program.decls texts assumed × Refused assumed q f)
+
 abbrev pub AssumingFault : (texts : List (List ℕ)) → (Question → ToolFault → Type 0) → Question → ToolFault → Type 0
-AssumingFault texts Refused q f = HasAssumptionFault q.program.decls texts f
-    ⊎ ((assumed : Option Expression) × AreAssumptions q.program.decls texts assumed × AssumedFault assumed Refused q f)
+AssumingFault texts Refused = AfterReading texts (λ assumed. AssumedFault assumed Refused)
 
 abbrev pub texts_of : ListRequest → List (List ℕ)
 texts_of r = map string_bytes r.assumed.items

@@ -2,6 +2,7 @@
 #![tactic(auto)]
 
 mod assuming;
+mod assuming_relevant;
 mod grouping;
 mod held_writing;
 mod holding;
@@ -10,6 +11,6 @@ mod progress;
 mod relevant;
 
 pub use assuming::{list_causes_assuming, list_groups_assuming, read_assumed};
+pub use assuming_relevant::list_relevant_assuming;
 pub use holding::list_held;
 pub use progress::list_progress;
-pub use relevant::list_relevant;

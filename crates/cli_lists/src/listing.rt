@@ -50,26 +50,8 @@ fn end_refusal(upto: Option<u64>, asked: &ListQuery) -> Option<CauseFault>
     }
 }
 
-/// The cursor over the causes from the first one on that is asked for.
-pub(crate) fn cursor_of<'a>(
-    alloc: Global,
-    rows: CauseRows,
-    asked: &'a ListQuery,
-) -> Result<Causes<'a>, CauseFault>
-    requires fits { Fits asked.now.program asked.now.state }
-    ensures program { IfOk result (λ c. c.program ≡ asked.now.program) }
-    ensures listed { IfOk result (λ c. c.listed ≡ asked.now.inputs.items) }
-    ensures rest { IfOk result (λ c. c.rest ≡ causes_after rows.after (question_of asked.now)) }
-    ensures search { IfOk result (λ c. searched c ≡ search_of (question_of asked.now) (first_number rows.after)) }
-    ensures looks { IfOk result (λ c. looks_of c ≡ 0) }
-    ensures accepted { IfOk result (λ _. list_refusal rows.after rows.upto (question_of asked.now) ≡ None) }
-    ensures refused { IfErr result (λ e. HasCauseFault (list_refusal rows.after rows.upto (question_of asked.now)) (ToolFault.Cause e)) }
-{
-    assumed_cursor_of(alloc, rows, asked, None)
-}
-
-/// The same, but only of the combinations with which what is assumed is true.
-fn assumed_cursor_of<'a>(
+/// The cursor over the causes from the first one on that is asked for, among the combinations with which what is assumed is true.
+pub(crate) fn assumed_cursor_of<'a>(
     alloc: Global,
     rows: CauseRows,
     asked: &'a ListQuery,

@@ -46,7 +46,7 @@ fn read_decided(alloc: Global, request: &ListRequest, texts: &Texts) -> Result<L
 
 /// Lists the causes of the coil in the state of the texts over the inputs that matter, in groups where these are asked for, and otherwise
 /// after a number where there is one.
-pub fn list_relevant<O: Sink, E: Sink>(
+pub(crate) fn list_relevant<O: Sink, E: Sink>(
     alloc: Global,
     request: &ListRequest,
     after: Option<u64>,

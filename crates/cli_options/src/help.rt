@@ -205,8 +205,9 @@ which never both are ON, in place of what can never
 come ON";
 
 pub(crate) const RELEVANT_HELP: &str = "Lists the inputs that matter to the coil in this
-scan, in order of declaration: no other makes a
-difference; not with an INPUT";
+scan, and those of --assume, in order of
+declaration: no other makes a difference; not with
+an INPUT";
 
 pub(crate) const PROGRESS_HELP: &str = "Tells on standard error, about once a second, up to
 which number the list is written: `reached N`; not
@@ -338,8 +339,7 @@ stores";
 
 pub(crate) const ASSUME_HELP: &str = "Counts only combinations with which EXPRESSION, in
 Structured Text over inputs, is true; may be given
-several times; not with --any, --relevant or
---progress";
+several times; not with --any";
 
 pub(crate) const GROUPED_HELP: &str = "Lists the causes in groups: how many each has, and
 - for an input that doesn't matter there; not with

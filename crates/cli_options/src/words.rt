@@ -20,7 +20,6 @@ The status is 2. A subcommand, a file, a coil or a name is missing, an option is
 | `--states` | `--runs` |  |
 | `--state` with `--any` | `--runs` |  |
 | `--relevant` |  | `--scans`, `--for`, `--every`, `--upto`, `--progress`, `--all-inputs`, `INPUT` |
-| `--assume` |  | `--relevant`, `--progress` |
 | `--relevant` with `--all-coils` |  | `INPUT` |
 | `--all-inputs` with `--all-coils` |  | `INPUT` |
 | `--all-inputs` |  | `INPUT` |

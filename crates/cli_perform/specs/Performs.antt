@@ -16,7 +16,9 @@ use Rattle.cli_export.specs.Exporting.{BreaksExport, Exports}
 use Rattle.cli_import.specs.Carrying.{BreaksCarrying, Carries}
 use Rattle.cli_lists.specs.Assumed.{BreaksAllGroups, BreaksCauses, CountsAllGroups, CountsCauses, HasCausesFault, HasGroupsFault}
 use Rattle.cli_lists.specs.AssumedHeld.{BreaksAllHeld, CountsAllHeld, HasAllHeldFault}
-use Rattle.cli_lists.specs.Lists.{BreaksProgress, BreaksRelevant, CountsProgress, CountsRelevant, HasListFault, HasRelevantFault, after_for, scans_of}
+use Rattle.cli_lists.specs.AssumedProgress.{BreaksAllProgress, CountsAllProgress}
+use Rattle.cli_lists.specs.AssumedRelevant.{BreaksAllRelevant, CountsAllRelevant, HasAllRelevantFault}
+use Rattle.cli_lists.specs.Lists.{after_for, scans_of}
 use Rattle.cli_states.specs.AnyState.{BreaksPossible, CountsPossible, HasPossibleFault}
 use Rattle.cli_states.specs.Never.{BreaksNever, CountsNever, HasNeverFault}
 use Rattle.cli_reach.specs.Asking.{HasReachFault}
@@ -40,13 +42,13 @@ name_for r = name_of (option_map string_bytes r.name)
 abbrev pub IsDone : Request → Given → Logs → Logs → Type 0
 IsDone (Check file warns) g old new = Checks warns g (PutsAll old.out new.out) × (new.save ≡ old.save) × (new.err ≡ old.err)
 IsDone (Causes list after upto) g old new = CountsCauses g list after upto old.out new.out (PutsAll old.err new.err) × (new.save ≡ old.save)
-IsDone (request.Progress list after upto) g old new = CountsProgress g list after upto old new × (new.save ≡ old.save)
+IsDone (request.Progress list after upto) g old new = CountsAllProgress g list after upto old new × (new.save ≡ old.save)
 IsDone (Held list scans every grouped) g old new = CountsAllHeld grouped g list (scans_of scans every) old.out new.out (PutsAll old.err new.err) × (new.save ≡ old.save)
 IsDone (request.Never r) g old new = CountsNever r.excluded g r old.out new.out (PutsAll old.err new.err) × (new.save ≡ old.save)
 IsDone (request.Reach r) g old new = TellsFound g r old.out new.out (PutsAll old.err new.err) × (new.save ≡ old.save)
 IsDone (request.Possible r) g old new = CountsPossible g r old.out new.out (PutsAll old.err new.err) × (new.save ≡ old.save)
 IsDone (Groups list grouping) g old new = CountsAllGroups g list grouping old.out new.out (PutsAll old.err new.err) × (new.save ≡ old.save)
-IsDone (request.Relevant list after grouping) g old new = CountsRelevant g list after grouping old.out new.out (PutsAll old.err new.err) × (new.save ≡ old.save)
+IsDone (request.Relevant list after grouping) g old new = CountsAllRelevant g list after grouping old.out new.out (PutsAll old.err new.err) × (new.save ≡ old.save)
 IsDone (Show r) g old new = Shows g r (PutsAll old.out new.out) × (new.save ≡ old.save) × (new.err ≡ old.err)
 IsDone (request.Film r) g old new = IsFilmed g r old.out new.out × (new.save ≡ old.save) × (new.err ≡ old.err)
 IsDone (Sim r) g old new = IsTraced g r.every (is_some r.save) old new
@@ -62,13 +64,13 @@ IsDone (Export r) g old new = Exports g r.language (name_for r) r.bits (PutsAll 
 abbrev pub HasFault : Request → Given → ToolFault → Type 0
 HasFault (Check file warns) g = HasProgramFault g
 HasFault (Causes list after upto) g = HasCausesFault g list after upto
-HasFault (request.Progress list after upto) g = HasListFault g list after upto
+HasFault (request.Progress list after upto) g = HasCausesFault g list after upto
 HasFault (Held list scans every grouped) g = HasAllHeldFault grouped g list (scans_of scans every)
 HasFault (request.Never r) g = HasNeverFault g
 HasFault (request.Reach r) g = HasReachFault g r
 HasFault (request.Possible r) g = HasPossibleFault g r
 HasFault (Groups list grouping) g = HasGroupsFault g list
-HasFault (request.Relevant list after grouping) g = HasRelevantFault g list (after_for after grouping)
+HasFault (request.Relevant list after grouping) g = HasAllRelevantFault g list (after_for after grouping)
 HasFault (Show r) g = HasShowFault g r
 HasFault (request.Film r) g = HasFilmFault g r
 HasFault (Sim r) g = HasSettingFault g
@@ -85,13 +87,13 @@ abbrev pub Breaks : Request → Given → Logs → Logs → Type 0
 Breaks (Check file warns) g old new =
     Checks warns g (PutsPrefix old.out new.out) × (new.save ≡ old.save) × IsReported g old.err new.err fault.Write
 Breaks (Causes list after upto) g old new = BreaksCauses g list after upto old new × (new.save ≡ old.save)
-Breaks (request.Progress list after upto) g old new = BreaksProgress g list after upto old new × (new.save ≡ old.save)
+Breaks (request.Progress list after upto) g old new = BreaksAllProgress g list after upto old new × (new.save ≡ old.save)
 Breaks (Held list scans every grouped) g old new = BreaksAllHeld grouped g list (scans_of scans every) old new × (new.save ≡ old.save)
 Breaks (request.Never r) g old new = BreaksNever r.excluded g r old new × (new.save ≡ old.save)
 Breaks (request.Reach r) g old new = BreaksReach g r old new × (new.save ≡ old.save)
 Breaks (request.Possible r) g old new = BreaksPossible g r old new × (new.save ≡ old.save)
 Breaks (Groups list grouping) g old new = BreaksAllGroups g list grouping old new × (new.save ≡ old.save)
-Breaks (request.Relevant list after grouping) g old new = BreaksRelevant g list after grouping old new × (new.save ≡ old.save)
+Breaks (request.Relevant list after grouping) g old new = BreaksAllRelevant g list after grouping old new × (new.save ≡ old.save)
 Breaks (Show r) g old new = Shows g r (PutsPrefix old.out new.out) × (new.save ≡ old.save) × IsReported g old.err new.err fault.Write
 Breaks (request.Film r) g old new = BreaksFilm g r old new × (new.save ≡ old.save)
 Breaks (Sim r) g old new = BreaksTrace g r.every (is_some r.save) old new

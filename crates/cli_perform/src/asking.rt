@@ -211,6 +211,7 @@ fn check_relevant(
     coil: &String,
 ) -> Result<(), ToolFault> {
     let named = asked_variables(alloc, setting.program.decls(), coil.as_str(), false, &[])?;
+    check_assumed(alloc, list, setting)?;
     let now = moment(list.moment, setting.state.moment());
     check_rules(setting, now, &named, None)
 }

@@ -15,7 +15,7 @@ use cli_export::{Exporting, write_export};
 use cli_import::{Importing, carry};
 use cli_inputs::Texts;
 use cli_lists::{
-    list_causes_assuming, list_groups_assuming, list_held, list_progress, list_relevant,
+    list_causes_assuming, list_groups_assuming, list_held, list_progress, list_relevant_assuming,
 };
 use cli_reach::reach;
 use cli_states::{list_never, list_possible};
@@ -157,7 +157,7 @@ pub fn perform<O: Sink, S: Sink, E: Sink>(
             list,
             after,
             grouping,
-        } => list_relevant(alloc, list, *after, *grouping, texts, out, err),
+        } => list_relevant_assuming(alloc, list, *after, *grouping, texts, out, err),
         Request::Show(scan) => show(alloc, scan, texts, out, err),
         Request::Film(stimulus) => film(alloc, stimulus, texts, out, err),
         Request::Watch(watched) => watch(alloc, watched, texts, out, save, err),

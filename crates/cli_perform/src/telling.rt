@@ -1,9 +1,9 @@
 //! A list or a simulation that reports how far it is without being asked.
 
 ghost use Rattle.std.specs.Prelude.{◌≡◌};
-ghost use Rattle.cli_perform.specs.Telling.{IsTelling, told_list, telling_form, telling_trace};
+ghost use Rattle.cli_perform.specs.Telling.{IsTelling, telling_form, telling_trace};
 
-use cli_arguments::{DiffForm, ListRequest, Request, WatchRequest};
+use cli_arguments::{DiffForm, Request, WatchRequest};
 use std::alloc::Global;
 
 /// A request with progress added, if it is for a plain list or for a trace.
@@ -11,7 +11,7 @@ pub(crate) fn telling(alloc: Global, request: Request) -> Request
     ensures { IsTelling request result }
 {
     match request {
-        Request::Causes { list, after, upto } => told_list(list, after, upto),
+        Request::Causes { list, after, upto } => Request::Progress { list, after, upto },
         Request::Sim(sim) => Request::Watch(WatchRequest {
             sim,
             all: false,
@@ -22,16 +22,6 @@ pub(crate) fn telling(alloc: Global, request: Request) -> Request
         Request::Watch(watch) => Request::Watch(telling_trace(watch)),
         other => other,
     }
-}
-
-/// The same of a plain list. One for which something is assumed of the inputs stays as it is.
-fn told_list(list: ListRequest, after: Option<u64>, upto: Option<u64>) -> Request
-    ensures { result ≡ told_list list after upto }
-{
-    if list.assumed.as_slice().is_empty() {
-        return Request::Progress { list, after, upto };
-    }
-    Request::Causes { list, after, upto }
 }
 
 /// The same of a trace with what is watched.

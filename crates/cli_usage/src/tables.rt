@@ -53,11 +53,6 @@ const CAUSES: &[Rule] = &[
             Term::Place("inputs", "INPUT"),
         ],
     ),
-    // What is assumed is of the inputs that are listed, and no line tells how far such a list is.
-    Rule::Excludes(
-        &[Term::Valued("assume")],
-        &[Term::Flag("relevant"), Term::Flag("progress")],
-    ),
     // With `--all-coils` no coil is named, so what is in its place is the first input.
     Rule::Excludes(
         &[Term::Flag("relevant"), Term::Valued("all-coils")],

@@ -1,4 +1,4 @@
-use Rattle.std.proofs.Common.{◌≡◌, ◌∙◌, ◌+◌, ◌-◌, ap, arith, refl, min, Some, sym}
+use Rattle.std.proofs.Common.{◌∙◌, ◌-◌, ap, arith, refl, Some, sym}
 use Rattle.assume_search.specs.Assumed.{assuming}
 use Rattle.search_tree.specs.Looks.{rest}
 use Rattle.search_tree.specs.declared.walk.Plan.{Plan}

@@ -1,7 +1,7 @@
 use Rattle.std.proofs.Common.{◌≡◌, ◌∙◌, ℕ, List, ap, inl, inr, refl, subst}
 use Rattle.std.specs.Prelude.{None, option_map}
 use Rattle.io_text.specs.Log.{PutsAll, PutsPrefix}
-use Rattle.causes_query.specs.Causes.{Question, question}
+use Rattle.causes_query.specs.Causes.{question}
 use Rattle.causes_query.specs.Refusal.{refusal}
 use Rattle.causes_one_scan.specs.Assuming.{is_assumed_cause}
 use Rattle.cli_inputs.proofs.Ends.{cause_fault}

@@ -1,4 +1,4 @@
-use Rattle.std.proofs.Common.{◌∙◌, inl, inr, refl, sym, subst, List, ℕ}
+use Rattle.std.proofs.Common.{◌∙◌, inl, inr, refl, subst, List, ℕ}
 use Rattle.std.specs.Prelude.{option_map}
 use Rattle.io_text.specs.Log.{PutsAll, PutsPrefix}
 use Rattle.causes_one_scan.specs.Assuming.{assumed_causes_after, assumed_search_of}

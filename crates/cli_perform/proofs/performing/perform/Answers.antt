@@ -44,7 +44,7 @@ pub returns-in-Import-clause-failed : goal.returns-in-Import-clause-failed
 returns-in-Import-clause-failed g c = λ status. rw c.in-Import.is (inr (c.import_project.ensures.failed status, refl))
 
 pub returns-in-Relevant-clause-failed : goal.returns-in-Relevant-clause-failed
-returns-in-Relevant-clause-failed g c = λ status. rw c.in-Relevant.is (with_third refl (c.list_relevant.ensures.failed (g.S.Sink.log c.args.save.now) status))
+returns-in-Relevant-clause-failed g c = λ status. rw c.in-Relevant.is (with_third refl (c.list_relevant_assuming.ensures.failed (g.S.Sink.log c.args.save.now) status))
 
 pub returns-in-Progress-clause-done : goal.returns-in-Progress-clause-done
 returns-in-Progress-clause-done g c = λ status. rw c.in-Progress.is (c.list_progress.ensures.done (g.S.Sink.log c.args.save.now) status, refl)
@@ -62,7 +62,7 @@ pub returns-in-Held-clause-done : goal.returns-in-Held-clause-done
 returns-in-Held-clause-done g c = λ status. rw c.in-Held.is (c.list_held.ensures.done status, refl)
 
 pub returns-in-Relevant-clause-done : goal.returns-in-Relevant-clause-done
-returns-in-Relevant-clause-done g c = λ status. rw c.in-Relevant.is (c.list_relevant.ensures.done status, refl)
+returns-in-Relevant-clause-done g c = λ status. rw c.in-Relevant.is (c.list_relevant_assuming.ensures.done status, refl)
 
 pub returns-in-Reach-clause-done : goal.returns-in-Reach-clause-done
 returns-in-Reach-clause-done g c = λ status. rw c.in-Reach.is (c.reach.ensures.done status, refl)
