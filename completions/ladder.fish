@@ -131,6 +131,7 @@ complete -c ladder -n '__ladder_at causes more 0' -l scans -x -d 'Over so many s
 complete -c ladder -n '__ladder_at causes more 0' -l for -x -d 'Over all scans up to so many ms, with the inputs held'
 complete -c ladder -n '__ladder_at causes more 0' -l every -x -d 'With --scans or --for, the time between two in ms'
 complete -c ladder -n '__ladder_at causes more 0' -l assume -x -d 'Combinations with which this expression is true alone'
+complete -c ladder -n '__ladder_at causes more 0' -l assumed -d 'Combinations with which what comments assume is true alone'
 complete -c ladder -n '__ladder_at causes more 0' -l grouped -d 'The causes in groups'
 complete -c ladder -n '__ladder_at causes more 0' -l terms -d 'Groups as terms'
 complete -c ladder -n '__ladder_at causes more 0' -l st -d 'Groups as a statement in Structured Text'

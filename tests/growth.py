@@ -22,6 +22,7 @@ from compiling import compiled
 HERE = pathlib.Path(__file__).resolve().parent
 TEXTS = {
     "motor.ld": (HERE / "programs" / "motor.ld").read_bytes(),
+    "assumed.ld": (HERE / "programs" / "motor.ld").read_bytes().replace(b"VAR\n", b"VAR\n  (* assume: NOT (Start AND Stop) *)\n", 1),
     "either.ld": (HERE / "programs" / "motor.ld").read_bytes().replace(b"|/|", b"| |"),
     "counter.ld": (HERE / "programs" / "counter.ld").read_bytes(),
     "rhythm.ld": (HERE / "programs" / "rhythm.ld").read_bytes(),
@@ -48,6 +49,10 @@ REQUESTS = (
     (("causes", "--scans", "3", "--state", "running.csv", "motor.ld", "Motor", "Start", "Stop"), LINES),
     (("causes", "--relevant", "--state", "running.csv", "motor.ld", "Motor"), LINES),
     (("causes", "--relevant", "--grouped", "motor.ld", "Motor"), LINES),
+    (("causes", "--assume", "Start OR NOT Stop", "motor.ld", "Motor", "Start", "Stop"), LINES),
+    (("causes", "--assumed", "--assume", "Start", "--grouped", "assumed.ld", "Motor", "Start", "Stop"), LINES),
+    (("causes", "--assume", "NOT Stop", "--scans", "3", "motor.ld", "Motor", "Start", "Stop"), LINES),
+    (("causes", "--assumed", "--relevant", "assumed.ld", "Motor"), LINES),
     (("causes", "--any", "motor.ld", "Motor", "Start", "Stop"), LINES),
     (("causes", "--any", "--off", "--must", "motor.ld", "Motor", "Start", "Stop"), LINES),
     (("causes", "--any", "--reachable", "motor.ld", "Motor", "Start", "Stop"), LINES),

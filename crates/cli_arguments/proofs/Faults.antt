@@ -378,7 +378,7 @@ no_possible_of_list rows any none =
     (λ r h.
     none
     (record { state = start_of r.runs; moment = None; limit = r.limit; quiet = r.quiet; file = r.file; coil = r.coil; all_inputs = r.all_inputs; inputs = r.inputs; assumed = emptied r.inputs })
-    (start_named rows r.runs h.4, h.5, h.13, h.14, h.15, h.16, h.17, no_values (codes "assume") rows h.23))
+    (start_named rows r.runs h.4, h.5, h.13, h.14, h.15, h.16, h.17, no_values (codes "assume") rows h.23.0))
 
 -- the inputs that matter
 only_relevant : (rows : List Row) → HasFlag (codes "relevant") rows

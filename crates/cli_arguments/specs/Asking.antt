@@ -205,6 +205,10 @@ NamesWatch rows r = HasWatched rows r.all (map string_bytes r.names.items)
 abbrev pub HasAssumed : List Row → List Text → Type 0
 HasAssumed rows texts = unwrap_or (all_of (codes "assume") rows) [] ≡ texts
 
+-- Nothing is assumed of inputs, by the request or by its text.
+abbrev pub AssumesNothing : List Row → Type 0
+AssumesNothing rows = HasOption (codes "assume") rows None × (HasFlag (codes "assumed") rows → ⊥)
+
 -- what a request for a list of causes names
 abbrev pub NamesList : List Row → ListRequest → Type 0
 NamesList rows l = HasOption (codes "state") rows (option_map string_bytes l.state)
@@ -301,7 +305,7 @@ Asks name rows (Possible r) = (name ≡ codes "causes")
     × HasNumber (codes "looks") rows r.looks
     × HasNumber (codes "upto") rows None
     × (HasFlag (codes "progress") rows → ⊥)
-    × HasOption (codes "assume") rows None
+    × AssumesNothing rows
 Asks name rows (Relevant list after grouping) = (name ≡ codes "causes")
     × HasFlag (codes "relevant") rows
     × HasInputs rows false []
@@ -469,7 +473,10 @@ AsksNone name rows = (r : Request) → Asks name rows r → ⊥
 
 -- the request and the flags of every subcommand are what the subcommand's name and values say
 abbrev pub Says : Text → List Row → CommandLine → Type 0
-Says name rows line = Asks name rows line.request × HasSwitch (codes "aliases") rows line.aliases × HasSwitch (codes "why") rows line.why
+Says name rows line = Asks name rows line.request
+    × HasSwitch (codes "assumed") rows line.assumed
+    × HasSwitch (codes "aliases") rows line.aliases
+    × HasSwitch (codes "why") rows line.why
 
 -- these names are given, and each is the code of a fault
 abbrev pub NamesCodes : List Row → List (String Global) → Type 0

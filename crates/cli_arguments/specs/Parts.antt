@@ -1,7 +1,7 @@
 -- What is read of the parts of a request.
 use Rattle.std.specs.Prelude.{false, List, Option, None, Some, map, codes, string_bytes, option_map, []}
 use Rattle.clap.specs.Words.{Row}
-use Rattle.cli_arguments.specs.Asking.{HasFlag, HasInputs, HasLasting, HasNumber, HasOption, HasText, NamesDiff, NamesDiffRuns, NamesVerdicts}
+use Rattle.cli_arguments.specs.Asking.{AssumesNothing, HasFlag, HasInputs, HasLasting, HasNumber, HasOption, HasText, NamesDiff, NamesDiffRuns, NamesVerdicts}
 use Rattle.cli_arguments.specs.declared.comparing.Programs.{Programs}
 use Rattle.cli_arguments.specs.declared.lasting.Lasting.{Lasting}
 use Rattle.cli_arguments.specs.declared.parts.NamedScan.{NamedScan}
@@ -52,7 +52,7 @@ abbrev pub IsOfAnyState : List Row → Type 0
 IsOfAnyState rows = HasNumber (codes "at") rows None
     × IsOfOneScan rows
     × (HasFlag (codes "relevant") rows → ⊥)
-    × HasOption (codes "assume") rows None
+    × AssumesNothing rows
 
 -- Nothing says which states count, whether every one is meant, how long a search is, or that runs are to come to a row.
 abbrev pub NamesNoStates : List Row → Type 0

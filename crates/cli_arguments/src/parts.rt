@@ -2,7 +2,7 @@
 
 ghost use Rattle.std.specs.Prelude.{◌≡◌, ◌++◌, ℕ, Bool, List, codes, IfOk, IfErr, map, string_bytes, None, Option, Some, true, false};
 ghost use Rattle.clap.specs.Words.{Text, first_of, found_of, rows_of};
-ghost use Rattle.cli_arguments.specs.Asking.{HasCoil, HasEvery, HasInputs, HasOption, NamesList, input_texts};
+ghost use Rattle.cli_arguments.specs.Asking.{AssumesNothing, HasCoil, HasEvery, HasInputs, HasOption, NamesList, input_texts};
 ghost use Rattle.cli_arguments.specs.Parts.{HasSources, NamesScan, IsUncut, NamesNoEnd, IsOfOneScan};
 ghost use Rattle.cli_arguments.specs.Faults.{UsageWhere};
 
@@ -165,12 +165,12 @@ pub(crate) fn names_end(found: &ArgMatches<'_>) -> bool
     is_given(found, "upto") || is_set(found, "progress")
 }
 
-/// Whether something is assumed of inputs.
+/// Whether something is assumed of inputs, by the request or by the program text.
 pub(crate) fn assumes(found: &ArgMatches<'_>) -> bool
-    ensures none { result ≡ false → HasOption (codes "assume") (rows_of (found_of found.now)) None }
-    ensures some { result ≡ true → HasOption (codes "assume") (rows_of (found_of found.now)) None → ⊥ }
+    ensures none { result ≡ false → AssumesNothing (rows_of (found_of found.now)) }
+    ensures some { result ≡ true → AssumesNothing (rows_of (found_of found.now)) → ⊥ }
 {
-    is_given(found, "assume")
+    is_given(found, "assume") || is_set(found, "assumed")
 }
 
 /// Whether a list is to begin after a number, to end at one, or to report how far it is.

@@ -498,6 +498,8 @@ pub enum Task {
 #[derive(Drop)]
 pub struct CommandLine {
     pub request: Request,
+    /// Whether what comments of the program text assume of the inputs is assumed too.
+    pub assumed: bool,
     /// Whether aliases are printed in place of names; an import and a drawing have none.
     pub aliases: bool,
     /// Whether a fault is explained, after its line.

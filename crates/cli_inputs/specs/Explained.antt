@@ -42,9 +42,9 @@ sentence (fault.State state.Memory) = codes "X7: out of memory"
 sentence (fault.Word number) = codes "X3: the word names no variable; COIL is word 1, and the first INPUT the next one"
 sentence (fault.Watched number) = codes "X3: the name is that of no variable and no instance; names that are watched are counted from 1"
 sentence (fault.Assumed number) =
-    codes "X2: it is no expression of names of inputs, NOT, AND, OR, XOR, =, <> and parentheses; the expressions of --assume are counted from 1"
+    codes "X2: it is no expression of names of inputs, NOT, AND, OR, XOR, =, <> and parentheses; the expressions of --assumed, then those of --assume, are counted from 1"
 sentence (fault.NoInput number column) =
-    codes "X3: the word names no input of this program; the expressions of --assume are counted from 1, and so are the columns of each"
+    codes "X3: the word names no input of this program; the expressions of --assumed, then those of --assume, are counted from 1, and so are the columns of each"
 sentence fault.NeverTrue = codes "C9: no combination makes all that is assumed true"
 sentence fault.Both = codes "X3: the name of --both is that of no variable and of no block"
 -- the records of a simulation are counted from 1, the header included

@@ -45,10 +45,10 @@ fn sentence(fault: ToolFault) -> &'static [u8]
             b"X3: the name is that of no variable and no instance; names that are watched are counted from 1"
         }
         ToolFault::Assumed { .. } => {
-            b"X2: it is no expression of names of inputs, NOT, AND, OR, XOR, =, <> and parentheses; the expressions of --assume are counted from 1"
+            b"X2: it is no expression of names of inputs, NOT, AND, OR, XOR, =, <> and parentheses; the expressions of --assumed, then those of --assume, are counted from 1"
         }
         ToolFault::NoInput { .. } => {
-            b"X3: the word names no input of this program; the expressions of --assume are counted from 1, and so are the columns of each"
+            b"X3: the word names no input of this program; the expressions of --assumed, then those of --assume, are counted from 1, and so are the columns of each"
         }
         ToolFault::NeverTrue => b"C9: no combination makes all that is assumed true",
         ToolFault::Both => { b"X3: the name of --both is that of no variable and of no block" }

@@ -1,5 +1,5 @@
 -- The command line, as clap's definitions of a simple command read it: `ladder check [--warn] FILE`,
--- `ladder causes [--state STATE] [--at MS] [--after N] [--upto N] [--limit N] [--scans N] [--every MS] [--assume EXPRESSION]... [--grouped] [--terms] [--st] [--order ORDER] [--relevant] [--all-inputs] [--progress] [--quiet] FILE COIL [INPUT]...`,
+-- `ladder causes [--state STATE] [--at MS] [--after N] [--upto N] [--limit N] [--scans N] [--every MS] [--assume EXPRESSION]... [--assumed] [--grouped] [--terms] [--st] [--order ORDER] [--relevant] [--all-inputs] [--progress] [--quiet] FILE COIL [INPUT]...`,
 -- `ladder causes --any [--off] [--must] [--reachable] [--looks N] [--runs [--states N] [--state STATE]] [--limit N] [--all-inputs] [--quiet] FILE COIL [INPUT]...`,
 -- each with `--all-coils FOLDER` in place of COIL,
 -- `ladder show [--state STATE] [--at MS] [--number N] [--stimulus STIMULUS] [--html] [--coil COIL] [--all-inputs] FILE [INPUT]...`,
@@ -86,7 +86,7 @@ diff_app = taking (codes "diff") (
 abbrev pub causes_app : App
 causes_app = taking (codes "causes") (
     text_rule (codes "state") ∷ number_rule (codes "at") ∷ number_rule (codes "after") ∷ number_rule (codes "upto") ∷ number_rule (codes "limit")
-    ∷ number_rule (codes "scans") ∷ number_rule (codes "for") ∷ number_rule (codes "every") ∷ texts_rule (codes "assume") ∷ flag_rule (codes "grouped") ∷ flag_rule (codes "terms") ∷ flag_rule (codes "st") ∷ text_rule (codes "order")
+    ∷ number_rule (codes "scans") ∷ number_rule (codes "for") ∷ number_rule (codes "every") ∷ texts_rule (codes "assume") ∷ flag_rule (codes "assumed") ∷ flag_rule (codes "grouped") ∷ flag_rule (codes "terms") ∷ flag_rule (codes "st") ∷ text_rule (codes "order")
     ∷ flag_rule (codes "any") ∷ flag_rule (codes "off") ∷ flag_rule (codes "must")
     ∷ flag_rule (codes "reachable") ∷ small_rule (codes "looks")
     ∷ flag_rule (codes "runs") ∷ small_rule (codes "states")

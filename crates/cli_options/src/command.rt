@@ -12,6 +12,7 @@ use crate::help::ALL_COILS_HELP;
 use crate::help::ALL_HELP;
 use crate::help::ANY_HELP;
 use crate::help::ASSUME_HELP;
+use crate::help::ASSUMED_HELP;
 use crate::help::AT_HELP;
 use crate::help::BITS_HELP;
 use crate::help::CAUSES_ABOUT;
@@ -229,6 +230,7 @@ const CAUSES: &[Word] = &[
     Word::Number("for", "MS", FOR_HELP),
     Word::Number("every", "MS", EVERY_HELP),
     Word::Texts("assume", "EXPRESSION", ASSUME_HELP),
+    Word::Flag("assumed", ASSUMED_HELP),
     Word::Flag("grouped", GROUPED_HELP),
     Word::Flag("terms", TERMS_HELP),
     Word::Flag("st", STATEMENT_HELP),

@@ -205,7 +205,7 @@ which never both are ON, in place of what can never
 come ON";
 
 pub(crate) const RELEVANT_HELP: &str = "Lists the inputs that matter to the coil in this
-scan, and those of --assume, in order of
+scan, and those of what is assumed, in order of
 declaration: no other makes a difference; not with
 an INPUT";
 
@@ -341,6 +341,10 @@ pub(crate) const ASSUME_HELP: &str = "Counts only combinations with which EXPRES
 Structured Text over inputs, is true; may be given
 several times; not with --any";
 
+pub(crate) const ASSUMED_HELP: &str = "Counts only combinations with which each EXPRESSION
+of the comments (* assume: EXPRESSION *) before
+END_VAR is true; not with --any";
+
 pub(crate) const GROUPED_HELP: &str = "Lists the causes in groups: how many each has, and
 - for an input that doesn't matter there; not with
 --after";
@@ -359,8 +363,8 @@ list (as without it)";
 pub(crate) const ANY_HELP: &str = "Lists what some state, at some moment, switches on:
 a row for each such assignment, marked ? where that
 isn't settled; not with --at, --after, --scans,
---for, --every or --assume; --state only with
---runs";
+--for, --every, --assume or --assumed; --state only
+with --runs";
 
 pub(crate) const OFF_HELP: &str = "With --any: counts only states in which the coil is
 OFF, so lists what can switch it ON";

@@ -167,7 +167,7 @@ rows 1
 pub(crate) const C9: &str = "\
 C9: what is assumed is never true
 
-With none of the combinations that are listed all expressions of `--assume` are true, so nothing could be listed, whatever the program does. An input that isn't listed keeps its stored value.
+With none of the combinations that are listed all expressions of `--assume` and `--assumed` are true, so nothing could be listed, whatever the program does. An input that isn't listed keeps its stored value.
 
 ```console
 $ ladder causes --assume 'Start AND NOT Start' motor.ld Motor Start Stop

@@ -11,7 +11,7 @@ The status is 2. A subcommand, a file, a coil or a name is missing, an option is
 | | Wants | Excludes |
 |---|---|---|
 | `causes FILE` | `COIL` or `--all-coils` |  |
-| `--any` |  | `--at`, `--after`, `--upto`, `--progress`, `--scans`, `--for`, `--every`, `--assume`, `--relevant`, `--terms`, `--st`, `--order auto` |
+| `--any` |  | `--at`, `--after`, `--upto`, `--progress`, `--scans`, `--for`, `--every`, `--assume`, `--assumed`, `--relevant`, `--terms`, `--st`, `--order auto` |
 | `--off` | `--any` |  |
 | `--must` | `--any` |  |
 | `--reachable` | `--any` |  |

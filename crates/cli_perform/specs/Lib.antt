@@ -1,5 +1,6 @@
 pub mod Performs
 pub mod Advised
+pub mod Assuming
 pub mod Files
 pub mod Coils
 pub mod Telling

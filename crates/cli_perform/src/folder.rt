@@ -1,8 +1,9 @@
 //! A request that is made of each coil of a program, over the files of a folder.
 
-ghost use Rattle.std.specs.Prelude.{◌≤◌};
+ghost use Rattle.std.specs.Prelude.{◌≤◌, IfErr};
 
 use crate::asking::read_coils;
+use crate::assuming::assume_comments;
 use crate::coil::perform_coil;
 use crate::files::read_texts;
 use crate::opening::readers_of;
@@ -256,14 +257,48 @@ impl Lists<'_> {
     }
 }
 
-/// Reads the texts of a request once, for the lists of all coils.
-fn texts_of(rt: &HostRuntime, alloc: Global, line: &CommandLine) -> Result<Texts, ToolFault> {
+/// Reads the texts of a request. Where one can't be read, that is said on standard error, and the status is returned.
+pub(crate) fn texts_of(rt: &HostRuntime, alloc: Global, line: &CommandLine) -> Result<Texts, u8>
+    ensures { IfErr result (λ status. status ≤ 1) }
+{
     let opening = Opening::new(rt);
     let mut readers = readers_of(&opening, &line.request);
-    let texts = read_texts(alloc, line, &mut readers);
+    let read = read_texts(alloc, line, &mut readers);
     drop(readers);
-    drop(opening);
-    texts
+    match read {
+        Ok(texts) => {
+            drop(opening);
+            Ok(texts)
+        }
+        Err(fault) => {
+            let status = report_unread(line.why, &fault, &mut CountedWriter::new(rt.stderr()));
+            drop(fault);
+            opening.explain(line.why);
+            drop(opening);
+            Err(status)
+        }
+    }
+}
+
+/// Assumes in the request what the comments of its program text assume, where that is asked for.
+fn assume_asked(alloc: Global, line: &mut CommandLine, texts: &Texts) -> Result<(), ToolFault> {
+    if !line.assumed {
+        return Ok(());
+    }
+    match assume_comments(alloc, &mut line.request, texts.program.as_slice()) {
+        Ok(()) => Ok(()),
+        Err(_) => Err(ToolFault::Memory),
+    }
+}
+
+/// Reads the names of the coils, of which the request is to be made, with what is assumed.
+fn asked_coils(
+    alloc: Global,
+    line: &mut CommandLine,
+    texts: &Texts,
+) -> Result<Vec<String>, ToolFault> {
+    assume_asked(alloc, line, texts)?;
+    read_coils(alloc, &line.request, texts)
 }
 
 /// Performs a request of these texts for each coil of its program. Returns the status.
@@ -276,7 +311,7 @@ fn list_coils(rt: &HostRuntime, alloc: Global, all: &mut AllCoils, texts: &Texts
         folder: all.folder.as_str(),
         texts,
     };
-    match read_coils(alloc, &all.line.request, texts) {
+    match asked_coils(alloc, &mut all.line, texts) {
         Ok(coils) => lists.make(&mut all.line.request, coils),
         Err(fault) => {
             let status = lists.refuse(&fault);
@@ -296,11 +331,6 @@ pub(crate) fn run_coils(rt: &HostRuntime, alloc: Global, all: &mut AllCoils) -> 
             drop(texts);
             status
         }
-        Err(fault) => {
-            let mut err = CountedWriter::new(rt.stderr());
-            let status = report_unread(all.line.why, &fault, &mut err);
-            drop(fault);
-            status
-        }
+        Err(status) => status,
     }
 }

@@ -3,6 +3,7 @@
 
 mod advised;
 mod asking;
+mod assuming;
 mod coil;
 mod coils;
 mod difference_folder;
@@ -21,6 +22,7 @@ mod two_texts;
 mod unread;
 mod witnesses;
 
+pub use assuming::{assume_comments, perform_assuming};
 pub use coil::perform_coil;
 pub use coils::coil_names;
 pub use files::{Readers, perform_files};

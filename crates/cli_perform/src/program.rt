@@ -2,8 +2,9 @@
 
 ghost use Rattle.std.specs.Prelude.{◌≤◌};
 
+use crate::assuming::perform_assuming;
 use crate::files::perform_files;
-use crate::folder::run_coils;
+use crate::folder::{run_coils, texts_of};
 use crate::opening::{diff_readers_of, readers_of, two_readers_of};
 use crate::refusing::{NEVER, explain_faults, is_explained, refuse_words, report, write_usage};
 use crate::runs::run_runs;
@@ -16,7 +17,7 @@ use cli_arguments::{
     CommandLine, DiffRequest, Request, SimRequest, Task, VerdictRequest, WordFault, read_words,
 };
 use cli_diff::compare_files;
-use cli_inputs::{ToolFault, write_fault};
+use cli_inputs::{Texts, ToolFault, write_fault};
 use cli_options::{codes, page_of};
 use cli_verdicts::judge_files;
 use io_text::{CountedWriter, Sink, WriteFault, put};
@@ -82,12 +83,14 @@ fn seen_on(rt: &HostRuntime, alloc: Global, task: Task) -> Task {
 fn told(alloc: Global, line: CommandLine) -> CommandLine {
     let CommandLine {
         request,
+        assumed,
         why,
         aliases,
     } = line;
     let request = telling(alloc, request);
     CommandLine {
         request,
+        assumed,
         why,
         aliases,
     }
@@ -100,7 +103,7 @@ fn run_task(rt: &HostRuntime, alloc: Global, task: &mut Task) -> u8
     // A stream that is closed at the start must not become one of the files: these take its place, and refuse what is written.
     let places = (no_file(rt), no_file(rt), no_file(rt));
     let status = match task {
-        Task::Perform(line) => run_line(rt, alloc, line),
+        Task::Perform(line) => run_request(rt, alloc, line),
         Task::PerformAll(all) => run_coils(rt, alloc, all),
         Task::Compare(request) => run_diff(rt, alloc, request),
         Task::Judge(request) => match &request.save {
@@ -178,6 +181,46 @@ fn run_line(rt: &HostRuntime, alloc: Global, line: &CommandLine) -> u8
             status
         }
     }
+}
+
+/// Performs the request of a command line over its files and the standard streams, with what its program text assumes where that is asked for.
+fn run_request(rt: &HostRuntime, alloc: Global, line: &mut CommandLine) -> u8
+    ensures { result ≤ 2 }
+{
+    if line.assumed {
+        return run_assuming(rt, alloc, line);
+    }
+    run_line(rt, alloc, line)
+}
+
+/// Performs the request of a command line, with what the comments of its program text assume, over its files and the standard streams.
+fn run_assuming(rt: &HostRuntime, alloc: Global, line: &mut CommandLine) -> u8
+    ensures { result ≤ 1 }
+{
+    match texts_of(rt, alloc, line) {
+        Ok(texts) => {
+            let status = run_on(rt, alloc, &mut line.request, &texts);
+            drop(texts);
+            status
+        }
+        Err(status) => status,
+    }
+}
+
+/// Performs a request on its texts, with what the comments of the program text assume, over the standard streams.
+fn run_on(rt: &HostRuntime, alloc: Global, request: &mut Request, texts: &Texts) -> u8
+    ensures { result ≤ 1 }
+{
+    let standard = Standard::new(rt);
+    let mut out = standard.out();
+    let mut err = standard.err();
+    let mut save = CountedWriter::new(Stream::Nothing);
+    let status = perform_assuming(alloc, request, texts, &mut out, &mut save, &mut err);
+    drop(save);
+    drop(err);
+    drop(out);
+    drop(standard);
+    status
 }
 
 /// Compares two programs over their files and the standard streams.

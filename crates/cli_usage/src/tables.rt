@@ -19,6 +19,7 @@ const CAUSES: &[Rule] = &[
             Term::Valued("for"),
             Term::Valued("every"),
             Term::Valued("assume"),
+            Term::Flag("assumed"),
             Term::Flag("relevant"),
             Term::Flag("terms"),
             Term::Flag("st"),

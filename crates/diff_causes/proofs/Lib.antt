@@ -1,5 +1,7 @@
+pub mod Assuming
 pub mod Numbers
 pub mod RowLaws
 mod Order
 pub mod GroupLaws
+pub mod Walking
 pub mod Partners

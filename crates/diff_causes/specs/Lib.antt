@@ -1,9 +1,11 @@
 pub mod Differences
+pub mod Assuming
 pub mod Asked
 pub mod Refused
 pub mod Cursor
 pub mod Order
 pub mod GroupCursor
 pub mod NumberScans
+pub mod InBoth
 pub mod RowSearch
 pub mod GroupSearch

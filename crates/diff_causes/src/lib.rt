@@ -1,11 +1,14 @@
-//! Which combinations leave a coil ON in just one of two programs: rows, and their groups.
+//! Which combinations leave a coil ON in just one of two programs: rows, and their groups; all of them, or those alone with which what is
+//! assumed of the inputs is true in both programs.
 #![tactic(auto)]
 
 mod fault;
 mod groups;
+mod in_both;
 mod number_scan;
 mod ordering;
 mod query;
+mod refusing;
 mod rows;
 mod trees;
 

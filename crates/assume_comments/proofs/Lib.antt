@@ -1,0 +1,4 @@
+mod Blocks
+mod Runs
+mod Starts
+mod Walks

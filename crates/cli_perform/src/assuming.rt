@@ -1,0 +1,91 @@
+//! A request with what the comments of its program text assume.
+
+ghost use Rattle.std.specs.Prelude.{◌≡◌, ◌≤◌, ◌⊎◌, IfOk, map, string_bytes};
+ghost use Rattle.cli_arguments.specs.declared.request.Request.{Request};
+ghost use Rattle.cli_inputs.specs.Reports.{Refuses, logs};
+ghost use Rattle.cli_inputs.specs.Setting.{given_by};
+ghost use Rattle.cli_inputs.specs.declared.fault.ToolFault.TheVariants.{Memory};
+ghost use Rattle.cli_perform.specs.Advised.{FailsAdvised};
+ghost use Rattle.cli_perform.specs.Assuming.{AssumesFirst, IsAssuming, TakesComments};
+ghost use Rattle.cli_perform.specs.Performs.{IsDone};
+
+use crate::advised::perform_advised;
+use assume_comments::assumed_in;
+use cli_arguments::{ListRequest, Request};
+use cli_inputs::{Texts, ToolFault, report};
+use io_text::Sink;
+use std::alloc::{AllocError, Global};
+use std::mem;
+
+/// Assumes these expressions in a list, before its own.
+fn assume_first(list: &mut ListRequest, texts: Vec<String>) -> Result<(), AllocError>
+    ensures { IfOk result (λ _. AssumesFirst (map string_bytes texts.items) list.old list.new) }
+{
+    let mut own = mem::replace(&mut list.assumed, texts);
+    list.assumed.append(&mut own)
+}
+
+/// Assumes these expressions in a request for a list of one state, before its own. Any other request stays as it is.
+fn assume_all(request: &mut Request, texts: Vec<String>) -> Result<(), AllocError>
+    ensures { IfOk result (λ _. IsAssuming (map string_bytes texts.items) request.old request.new) }
+{
+    match request {
+        Request::Causes { list, .. } => assume_first(list, texts),
+        Request::Progress { list, .. } => assume_first(list, texts),
+        Request::Held { list, .. } => assume_first(list, texts),
+        Request::Groups { list, .. } => assume_first(list, texts),
+        Request::Relevant { list, .. } => assume_first(list, texts),
+        Request::Possible(_)
+        | Request::Check { .. }
+        | Request::Never(_)
+        | Request::Reach(_)
+        | Request::Show(_)
+        | Request::Film(_)
+        | Request::Sim(_)
+        | Request::Watch(_)
+        | Request::Expect(_)
+        | Request::Waves(_)
+        | Request::Uses { .. }
+        | Request::Import(_)
+        | Request::Draw { .. }
+        | Request::Export(_) => {
+            drop(texts);
+            Ok(())
+        }
+    }
+}
+
+/// Assumes in a request for a list of one state what the comments of its program text assume, before what it assumes by itself.
+///
+/// # Errors
+///
+/// An error when out of memory; what the request assumes is then not said.
+pub fn assume_comments(alloc: Global, request: &mut Request, text: &[u8]) -> Result<(), AllocError>
+    ensures { IfOk result (λ _. TakesComments text.now request.old request.new) }
+{
+    let texts = assumed_in(alloc, text)?;
+    assume_all(request, texts)
+}
+
+/// Performs a request on its texts, with what the comments of the program text assume, as `perform` does. After a fault that is explained it is said
+/// which name is meant by one that names nothing. Returns the status: 0 where all was written, 1 where a fault stopped it.
+pub fn perform_assuming<O: Sink, S: Sink, E: Sink>(
+    alloc: Global,
+    request: &mut Request,
+    texts: &Texts,
+    out: &mut O,
+    save: &mut S,
+    err: &mut E,
+) -> u8
+    ensures status { result ≤ 1 }
+    ensures done { result ≡ 0 → (r : Request) × TakesComments (given_by texts.now).program request.old r
+        × IsDone r (given_by texts.now) (logs (O.log out.old) (S.log save.old) (E.log err.old)) (logs (O.log out.new) (S.log save.new) (E.log err.new)) }
+    ensures failed { result ≡ 1 → Refuses (given_by texts.now) (λ f. f ≡ Memory) (logs (O.log out.old) (S.log save.old) (E.log err.old)) (logs (O.log out.new) (S.log save.new) (E.log err.new))
+        ⊎ ((r : Request) × TakesComments (given_by texts.now).program request.old r
+        × FailsAdvised r (given_by texts.now) (logs (O.log out.old) (S.log save.old) (E.log err.old)) (logs (O.log out.new) (S.log save.new) (E.log err.new))) }
+{
+    match assume_comments(alloc, request, texts.program.as_slice()) {
+        Ok(()) => perform_advised(alloc, request, texts, out, save, err),
+        Err(_) => report(texts, &ToolFault::Memory, err),
+    }
+}
