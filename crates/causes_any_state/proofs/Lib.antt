@@ -1,4 +1,5 @@
 pub mod Asking
+mod Assuming
 mod Claims
 mod Covering
 mod Given

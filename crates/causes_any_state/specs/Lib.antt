@@ -3,3 +3,4 @@ pub mod Possible
 pub mod Searching
 pub mod Cursor
 pub mod Judged
+pub mod Truth

@@ -1,6 +1,6 @@
 //! A state asked of all numbers of a block at once.
 
-ghost use Rattle.std.specs.Prelude.{◌≡◌, ◌+◌, ◌%◌, ◌<◌, ◌≤◌, ◌==◌, ◌^◌, IfOk, false, length, map, position, slice_index_or};
+ghost use Rattle.std.specs.Prelude.{◌≡◌, ◌+◌, ◌%◌, ◌<◌, ◌≤◌, ◌==◌, ◌^◌, IfOk, false, length, map, option_map, position, slice_index_or};
 ghost use Rattle.causes_query.specs.Patterns.{word_opened};
 ghost use Rattle.causes_query.specs.Prefixes.{signal_of};
 ghost use Rattle.causes_query.specs.Listable.{IsListable};
@@ -10,6 +10,7 @@ ghost use Rattle.causes_any_state.specs.Numbers.{EachLeaves, block_bits, places_
 ghost use Rattle.causes_any_state.specs.Possible.{AreStatesOf};
 ghost use Rattle.causes_any_state.specs.Searching.{IsBatchLook, AreStateBuffers, IsTried};
 
+use crate::assumed::true_places;
 use crate::content::MOMENT;
 use crate::numbers::place_of;
 use crate::query::{StateQuery, Tried};
@@ -21,6 +22,7 @@ use scan_cycle::{Memory, State};
 use scan_signals::{Operations, Word64};
 use scan_symbolic::laws::sound;
 use scan_symbolic::{Work, look};
+use st_expression::Expression;
 use std::alloc::Global;
 
 /// What a look at a block fills.
@@ -83,15 +85,20 @@ fn places(signal: Word64, value: bool) -> u64
     if value { signal.0 } else { signal.not().0 }
 }
 
-/// Which numbers of the block that begins with the asked one the state leaves the coil at the sought value with, where it counts: place i of
-/// the word is for the i-th.
-pub(crate) fn look_at_block(asked: StateQuery<'_>, tried: &Tried, sight: &mut BatchLook) -> u64
+/// Which numbers of the block that begins with the asked one the state leaves the coil at the sought value with, where it counts and what is
+/// assumed is true: place i of the word is for the i-th.
+pub(crate) fn look_at_block(
+    asked: StateQuery<'_>,
+    assumed: Option<&Expression>,
+    tried: &Tried,
+    sight: &mut BatchLook,
+) -> u64
     requires listable { IsListable asked.program.now asked.coil asked.listed.now }
     requires aligned { asked.number % 2 ^ block_bits asked.listed.now ≡ 0 }
     requires states { AreStatesOf asked.program.now asked.states.now }
     requires tried { IsTried asked.program.now tried.now }
     requires sight { IsBatchLook asked.program.now sight.old }
-    ensures found { EachLeaves asked.entry.program.now asked.entry.coil asked.entry.listed.now asked.entry.states.now asked.entry.sought asked.entry.number result }
+    ensures found { EachLeaves (option_map (λ e. e.now) assumed.entry) asked.entry.program.now asked.entry.coil asked.entry.listed.now asked.entry.states.now asked.entry.sought asked.entry.number result }
     ensures sight { IsBatchLook asked.entry.program.now sight.new }
 {
     if !counts(asked.program, asked.states, asked.coil, &tried.state) {
@@ -113,5 +120,5 @@ pub(crate) fn look_at_block(asked: StateQuery<'_>, tried: &Tried, sight: &mut Ba
         &mut sight.work,
     );
     sound::<Word64>(asked.program);
-    places(sight.work.value(asked.coil), asked.sought)
+    places(sight.work.value(asked.coil), asked.sought) & true_places(assumed, &sight.image)
 }

@@ -1,11 +1,11 @@
 //! Whether some state leaves the coil at the sought value with a number.
 
-ghost use Rattle.std.specs.Prelude.{◌≡◌, ◌+◌, ◌<◌, ◌%◌, ◌^◌, length, true};
+ghost use Rattle.std.specs.Prelude.{◌≡◌, ◌+◌, ◌<◌, ◌%◌, ◌^◌, IsTrue, length, option_map, true};
 ghost use Rattle.causes_query.specs.Listable.{IsListable};
 ghost use Rattle.invariant_sets.specs.Never.{knowing};
 ghost use Rattle.scan_partial.specs.Sizes.{AreAsLong};
 ghost use Rattle.causes_any_state.specs.Numbers.{IsBegun, MayKnowCoil, NoneLeaves};
-ghost use Rattle.causes_any_state.specs.Possible.{AreStatesOf, SomeLeaves, set_in};
+ghost use Rattle.causes_any_state.specs.Possible.{AreStatesOf, SomeLeaves, SomeLeavesBy, set_in};
 ghost use Rattle.causes_any_state.specs.Searching.{IsKnowing, AreStateBuffers};
 ghost use Rattle.causes_any_state.specs.declared.judging.Verdict.TheVariants.{Never, Found};
 
@@ -23,13 +23,14 @@ use invariant_cases::{Outcome, Pair, Point, Question};
 use invariant_sets::knowing::know;
 use scan_partial::Knowledge;
 use scan_signals::Tri;
+use st_expression::Expression;
 
 /// What is settled of a number.
 #[derive(Clone, Copy, Debug, PartialEq, Eq)]
 pub(crate) enum Verdict {
     /// No state leaves the coil at the sought value with it.
     Never,
-    /// Some state does.
+    /// Some state does, with which what is assumed is true.
     Found,
     /// It isn't settled.
     Open,
@@ -110,20 +111,39 @@ pub(crate) fn is_never(
     settle(question, &mut space.knowing.buffers, scans).is_settled
 }
 
+/// Whether a state is found that leaves the coil at the sought value with the number.
+pub(crate) fn finds(
+    asked: StateQuery<'_>,
+    assumed: Option<&Expression>,
+    space: &mut StateBuffers,
+) -> bool
+    requires listable { IsListable asked.program.now asked.coil asked.listed.now }
+    requires states { AreStatesOf asked.program.now asked.states.now }
+    requires space { AreStateBuffers asked.program.now space.old }
+    ensures found { IsTrue result → SomeLeavesBy (option_map (λ e. e.now) assumed.entry) asked.entry.program.now asked.entry.coil asked.entry.listed.now asked.entry.states.now asked.entry.sought asked.entry.number }
+    ensures space { AreStateBuffers asked.entry.program.now space.new }
+{
+    begin(asked, 0, space);
+    seek(asked, assumed, space, asked.looks).is_found
+}
+
 /// What is settled of the number.
-pub(crate) fn judge(asked: StateQuery<'_>, space: &mut StateBuffers) -> Verdict
+pub(crate) fn judge(
+    asked: StateQuery<'_>,
+    assumed: Option<&Expression>,
+    space: &mut StateBuffers,
+) -> Verdict
     requires listable { IsListable asked.program.now asked.coil asked.listed.now }
     requires states { AreStatesOf asked.program.now asked.states.now }
     requires space { AreStateBuffers asked.program.now space.old }
     ensures never { result ≡ Never → SomeLeaves asked.entry.program.now asked.entry.coil asked.entry.listed.now asked.entry.states.now asked.entry.sought asked.entry.number → ⊥ }
-    ensures found { result ≡ Found → SomeLeaves asked.entry.program.now asked.entry.coil asked.entry.listed.now asked.entry.states.now asked.entry.sought asked.entry.number }
+    ensures found { result ≡ Found → SomeLeavesBy (option_map (λ e. e.now) assumed.entry) asked.entry.program.now asked.entry.coil asked.entry.listed.now asked.entry.states.now asked.entry.sought asked.entry.number }
     ensures space { AreStateBuffers asked.entry.program.now space.new }
 {
     if is_never(asked, 0, space, asked.looks) {
         return Verdict::Never;
     }
-    begin(asked, 0, space);
-    if seek(asked, space, asked.looks).is_found {
+    if finds(asked, assumed, space) {
         Verdict::Found
     } else {
         Verdict::Open

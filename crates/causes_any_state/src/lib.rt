@@ -1,6 +1,7 @@
 //! Which combinations of the listed inputs switch a coil on from some state, or from every state, and their groups.
 #![tactic(auto)]
 
+mod assumed;
 mod batch_look;
 mod before;
 mod buffers;

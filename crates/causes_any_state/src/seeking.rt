@@ -1,13 +1,14 @@
 //! The search for a state that leaves the coil at the sought value.
 
-ghost use Rattle.std.specs.Prelude.{◌≡◌, ◌<◌, ◌≤◌, IsTrue, length};
+ghost use Rattle.std.specs.Prelude.{◌≡◌, ◌<◌, ◌≤◌, IsTrue, length, option_map};
 ghost use Rattle.scan_partial.specs.Sizes.{AreAsLong};
-ghost use Rattle.causes_any_state.specs.Possible.{AreStatesOf, SomeLeaves, pairs_of};
+ghost use Rattle.causes_any_state.specs.Possible.{AreStatesOf, SomeLeavesBy, pairs_of};
 ghost use Rattle.causes_any_state.specs.Searching.{AreStateBuffers};
 
+use crate::assumed::{is_false_in, open_operand};
 use crate::buffers::StateBuffers;
 use crate::candidate::is_found;
-use crate::query::{Knowing, StateQuery};
+use crate::query::StateQuery;
 use crate::states::pairs;
 use diagram_declarations::Symbol;
 use invariant_cases::cases::look;
@@ -17,6 +18,7 @@ use invariant_cases::pinning::{is_known, pin, pin_answer};
 use invariant_cases::{Answer, Outcome, Pair, Point, Question, ScanKnowledge};
 use scan_partial::Knowledge;
 use scan_signals::Tri;
+use st_expression::Expression;
 
 /// Whether a state was found, and how many scans are left.
 #[derive(Clone, Copy)]
@@ -51,26 +53,50 @@ fn leave(point: Point, case: &mut Knowledge<Tri, Outcome>)
     }
 }
 
-/// A point that leaves the coil open after the scan of the case.
-fn next_point(asked: StateQuery<'_>, known: &Knowing) -> Option<Point> {
+/// A point that leaves the coil open after the scan of the case, or where none does, one that may leave open what is assumed.
+fn next_point(
+    asked: StateQuery<'_>,
+    assumed: Option<&Expression>,
+    space: &StateBuffers,
+) -> Option<Point> {
+    let known = &space.knowing;
     let sight = ScanKnowledge {
         program: asked.program,
         writers: &known.writers,
         before: &known.buffers.case,
         after: &known.buffers.trial,
     };
-    open_point(sight, Point::Variable(asked.coil))
+    match open_point(sight, Point::Variable(asked.coil)) {
+        Some(point) => Some(point),
+        None => open_operand(assumed, &space.sight.inputs, &known.buffers.case),
+    }
+}
+
+/// Whether the case allows no state that is sought, by what a scan of it left of the coil and by what is assumed.
+fn is_hopeless(
+    asked: StateQuery<'_>,
+    assumed: Option<&Expression>,
+    value: Tri,
+    space: &StateBuffers,
+) -> bool {
+    is_known(value, !asked.sought)
+        || is_false_in(assumed, &space.sight.inputs, &space.knowing.buffers.case)
 }
 
 /// Tries to find a state that leaves the coil at the sought value, among those that the case allows: by further cases, and by at most
 /// so many scans over three values. What is found is scanned as it stands.
 #[cycle(seeking)]
-pub(crate) fn seek(asked: StateQuery<'_>, space: &mut StateBuffers, scans: u32) -> Attempt
+pub(crate) fn seek(
+    asked: StateQuery<'_>,
+    assumed: Option<&Expression>,
+    space: &mut StateBuffers,
+    scans: u32,
+) -> Attempt
     requires few { length asked.listed.now ≤ 64 }
     requires coil { asked.coil < length asked.program.now.decls.vars }
     requires states { AreStatesOf asked.program.now asked.states.now }
     requires space { AreStateBuffers asked.program.now space.old }
-    ensures found { IsTrue result.is_found → SomeLeaves asked.entry.program.now asked.entry.coil asked.entry.listed.now asked.entry.states.now asked.entry.sought asked.entry.number }
+    ensures found { IsTrue result.is_found → SomeLeavesBy (option_map (λ e. e.now) assumed.entry) asked.entry.program.now asked.entry.coil asked.entry.listed.now asked.entry.states.now asked.entry.sought asked.entry.number }
     ensures scans { result.scans ≤ scans }
     ensures space { AreStateBuffers asked.entry.program.now space.new }
 {
@@ -89,11 +115,22 @@ pub(crate) fn seek(asked: StateQuery<'_>, space: &mut StateBuffers, scans: u32) 
         wanted: asked.sought,
     };
     let value = look(question, &mut space.knowing.buffers);
-    if let Some(point) = next_point(asked, &space.knowing) {
-        return by_cases(asked, point, space, left);
+    if is_hopeless(asked, assumed, value, space) {
+        return Attempt {
+            is_found: false,
+            scans: left,
+        };
     }
-    let is_found = !is_known(value, !asked.sought)
-        && is_found(asked, &space.knowing.buffers.case, &mut space.tried);
+    if let Some(point) = next_point(asked, assumed, space) {
+        return by_cases(asked, assumed, point, space, left);
+    }
+    let is_found = is_found(
+        asked,
+        assumed,
+        &space.sight.inputs,
+        &space.knowing.buffers.case,
+        &mut space.tried,
+    );
     Attempt {
         is_found,
         scans: left,
@@ -102,19 +139,25 @@ pub(crate) fn seek(asked: StateQuery<'_>, space: &mut StateBuffers, scans: u32) 
 
 /// The same in each case of a point.
 #[cycle(seeking)]
-fn by_cases(asked: StateQuery<'_>, point: Point, space: &mut StateBuffers, scans: u32) -> Attempt
+fn by_cases(
+    asked: StateQuery<'_>,
+    assumed: Option<&Expression>,
+    point: Point,
+    space: &mut StateBuffers,
+    scans: u32,
+) -> Attempt
     requires few { length asked.listed.now ≤ 64 }
     requires coil { asked.coil < length asked.program.now.decls.vars }
     requires states { AreStatesOf asked.program.now asked.states.now }
     requires space { AreStateBuffers asked.program.now space.old }
-    ensures found { IsTrue result.is_found → SomeLeaves asked.entry.program.now asked.entry.coil asked.entry.listed.now asked.entry.states.now asked.entry.sought asked.entry.number }
+    ensures found { IsTrue result.is_found → SomeLeavesBy (option_map (λ e. e.now) assumed.entry) asked.entry.program.now asked.entry.coil asked.entry.listed.now asked.entry.states.now asked.entry.sought asked.entry.number }
     ensures scans { result.scans ≤ scans }
     ensures space { AreStateBuffers asked.entry.program.now space.new }
 {
     let mut left = scans;
     for case in 0..CASES.len() {
         if choose(point, CASES[case], &mut space.knowing.buffers.case) {
-            let attempt = by_partners(asked, 0, space, left);
+            let attempt = by_partners(asked, assumed, 0, space, left);
             if attempt.is_found {
                 return attempt;
             }
@@ -132,6 +175,7 @@ fn by_cases(asked: StateQuery<'_>, point: Point, space: &mut StateBuffers, scans
 #[cycle(seeking)]
 fn by_partners(
     asked: StateQuery<'_>,
+    assumed: Option<&Expression>,
     number: usize,
     space: &mut StateBuffers,
     scans: u32,
@@ -141,15 +185,15 @@ fn by_partners(
     requires number { number ≤ length (pairs_of asked.states.now.staying) }
     requires states { AreStatesOf asked.program.now asked.states.now }
     requires space { AreStateBuffers asked.program.now space.old }
-    ensures found { IsTrue result.is_found → SomeLeaves asked.entry.program.now asked.entry.coil asked.entry.listed.now asked.entry.states.now asked.entry.sought asked.entry.number }
+    ensures found { IsTrue result.is_found → SomeLeavesBy (option_map (λ e. e.now) assumed.entry) asked.entry.program.now asked.entry.coil asked.entry.listed.now asked.entry.states.now asked.entry.sought asked.entry.number }
     ensures scans { result.scans ≤ scans }
     ensures space { AreStateBuffers asked.entry.program.now space.new }
 {
     let Some(forced) = next_forced(pairs(asked.states), number, &space.knowing.buffers.case) else {
-        return seek(asked, space, scans);
+        return seek(asked, assumed, space, scans);
     };
     pin(forced.point, Tri::Off, &mut space.knowing.buffers.case);
-    let attempt = by_partners(asked, forced.number + 1, space, scans);
+    let attempt = by_partners(asked, assumed, forced.number + 1, space, scans);
     leave(forced.point, &mut space.knowing.buffers.case);
     attempt
 }

@@ -3,7 +3,7 @@ use Rattle.std.proofs.Common.{ap, subst, ℕ, None, Option, Some}
 use Rattle.std.specs.Prelude.{IfSome}
 use Rattle.scan_cycle.specs.Standing.{IsStanding, Standing}
 use Rattle.causes_query.specs.Listable.{IsListable}
-use Rattle.causes_any_state.specs.Possible.{AreDenied, AreStatesOf, Gives, PossibleCursor, Says}
+use Rattle.causes_any_state.specs.Possible.{AreDeniedBy, AreStatesOf, Gives, PossibleCursor, SaysBy}
 use Rattle.causes_any_state.specs.declared.claim.Claim.{Claim}
 use Rattle.causes_any_state.specs.declared.possible.PossibleCause.{PossibleCause}
 use Rattle.causes_in_runs.specs.Buffers.{AreRunBuffers}
@@ -24,17 +24,20 @@ some_then P Q (Some x) h p = h x p
 module _ (a : Inside) (keeps : AreRunBuffers a) (standing : IsStanding a.state.now) (law : RunsLead a.causes.program)
     (listable : IsListable a.causes.program a.causes.coil a.causes.listed) (of : AreStatesOf a.causes.program a.causes.states) where
   -- what is impossible is not reached
-  pub none_reached : (from to : ℕ) → AreDenied a.causes.program a.causes.coil a.causes.listed a.causes.states a.causes.claim from to
+  pub none_reached : (from to : ℕ) → AreDeniedBy a.causes.assumed a.causes.program a.causes.coil a.causes.listed a.causes.states a.causes.claim from to
       → AreUnreached a.causes.program a.state.now a.causes.coil a.causes.listed from to
   none_reached from to denied n later below =
       law a.state.now keeps.fits standing a.causes.states of keeps.counts a.causes.coil a.causes.listed listable.inputs n
-      (subst (λ (claim : Claim). AreDenied a.causes.program a.causes.coil a.causes.listed a.causes.states claim from to) keeps.claim denied n later below)
+      (subst (λ (claim : Claim). AreDeniedBy None a.causes.program a.causes.coil a.causes.listed a.causes.states claim from to) keeps.claim
+      (subst (λ assumed. AreDeniedBy assumed a.causes.program a.causes.coil a.causes.listed a.causes.states a.causes.claim from to) keeps.assumed denied)
+      n later below)
 
   pub gives_possible : (row : PossibleCause) (d : PossibleCursor) → Gives a.causes row d → GivesPossible (view_of a.causes a.state.now) row (view_of d a.state.now)
   gives_possible row d gives = record {
     from = gives.from;
     within = gives.within;
     unreached_before = none_reached a.causes.from row.number gives.denied_before;
-    said = λ settled. subst (λ (claim : Claim). Says claim a.causes.program a.causes.coil a.causes.listed a.causes.states row.number) keeps.claim (gives.said settled);
+    said = λ settled. subst (λ (claim : Claim). SaysBy None claim a.causes.program a.causes.coil a.causes.listed a.causes.states row.number) keeps.claim
+        (subst (λ assumed. SaysBy assumed a.causes.claim a.causes.program a.causes.coil a.causes.listed a.causes.states row.number) keeps.assumed (gives.said settled));
     then = ap (λ (x : PossibleCursor). view_of x a.state.now) gives.then;
   }

@@ -4,7 +4,7 @@ use Rattle.std.specs.Prelude.{IfSome, count_by, not}
 use Rattle.diagram_program.specs.Program.{Drawing}
 use Rattle.causes_query.specs.Causes.{Question}
 use Rattle.causes_query.specs.Refusal.{refusal}
-use Rattle.causes_any_state.specs.Possible.{AreRows, AreStatesOf, MayBeOf, PossibleCursor}
+use Rattle.causes_any_state.specs.Possible.{AreRowsBy, AreStatesOf, MayBeOf, PossibleCursor}
 use Rattle.invariant_sets.specs.declared.staying.Staying.{Staying}
 use Rattle.scan_cycle.specs.Standing.{Standing}
 use Rattle.causes_any_state.specs.declared.possible.PossibleCause.{PossibleCause}
@@ -50,7 +50,7 @@ module _ (r : PossibleRequest) (q : Question) (c d : PossibleCursor) (rows : Lis
     rows = rows;
     few = few;
     to = d.from;
-    are = subst (λ (x : PossibleCursor). AreRows x.program x.coil x.listed x.states x.claim x.from d.from rows) made.same gave.rows_are;
+    are = subst (λ (x : PossibleCursor). AreRowsBy x.assumed x.program x.coil x.listed x.states x.claim x.from d.from rows) made.same gave.rows_are;
     written = ap (λ (x : PossibleCursor). possible_text x.program x.listed rows) made.same;
     all = all;
     count = count;

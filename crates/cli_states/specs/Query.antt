@@ -1,5 +1,5 @@
 -- Private to the lists: what is asked of all states.
-use Rattle.std.specs.Prelude.{◌≡◌, Bool, false, List, Option}
+use Rattle.std.specs.Prelude.{◌≡◌, Bool, false, List, None, Option}
 use Rattle.search_groups.specs.declared.class_walk.ClassGroup.{ClassGroup}
 use Rattle.causes_any_state.specs.Possible.{PossibleCursor}
 use Rattle.invariant_sets.specs.declared.staying.Staying.{Staying}
@@ -17,7 +17,7 @@ at_stored q = record q { now = q.state.moment }
 pub record AsksFor (off must : Bool) (r : PossibleRequest) (q : Question) (c : PossibleCursor) : Type 0 where
   pub staying : Option Staying
   pub stays : IsStayingBy r.reachable q.program q.state staying
-  pub same : c ≡ record { program = q.program; coil = q.coil; listed = q.listed; states = counted off staying; claim = claimed must; from = 0 }
+  pub same : c ≡ record { program = q.program; coil = q.coil; listed = q.listed; states = counted off staying; claim = claimed must; assumed = None; from = 0 }
 
 -- The same of the runs from the state.
 pub record AsksRuns (r : PossibleRequest) (q : Question) (c : RunCursor) : Type 0 where

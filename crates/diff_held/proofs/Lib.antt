@@ -1,3 +1,5 @@
 mod Starting
 mod Merges
+mod Told
+mod Counts
 mod Stepping

@@ -1,7 +1,9 @@
-//! In which scan two programs switch a coil on, with the inputs held.
+//! In which scan two programs switch a coil on, with the inputs held: with all combinations, or with those alone with which what is assumed
+//! of the inputs is true in both programs.
 #![tactic(auto)]
 
 mod ahead;
+mod counting;
 mod fault;
 mod row;
 mod rows;

@@ -5,7 +5,7 @@ use Rattle.std.proofs.lemmas.List.{length-append, map-append}
 use Rattle.std.proofs.lemmas.List.Sums.{sum_by-append}
 use Rattle.std.proofs.lemmas.Result.{IfOk-from_err}
 use Rattle.std.proofs.Math.Nat.{eq-or-lt_of_le}
-use Rattle.causes_any_state.specs.Possible.{AreDenied, AreRows, Gives, PossibleCursor, Says}
+use Rattle.causes_any_state.specs.Possible.{AreDeniedBy, AreRowsBy, Gives, PossibleCursor, SaysBy}
 use Rattle.causes_any_state.specs.declared.possible.PossibleCause.{PossibleCause}
 use Rattle.causes_any_state.proofs.Rows.{no_rows, rows_end, rows_more}
 use Rattle.io_text.specs.Text.{line_text, lines_text}
@@ -32,10 +32,10 @@ one_given c d e rows row gave gives =
     let from : e.from ≡ row.number + 1 = ap (λ (x : PossibleCursor). x.from) gives.then in
     record {
       later = omega (arith, gave.later, gives.from, from);
-      rows_are = subst (λ (n : ℕ). AreRows c.program c.coil c.listed c.states c.claim c.from n (rows ++ row ∷ [])) (sym from)
-          (rows_more c.program c.coil c.listed c.states c.claim rows c.from d.from gave.rows_are gave.later row gives.from
-          (here (λ x. AreDenied x.program x.coil x.listed x.states x.claim d.from row.number) gives.denied_before)
-          (λ settled. here (λ x. Says x.claim x.program x.coil x.listed x.states row.number) (gives.said settled)));
+      rows_are = subst (λ (n : ℕ). AreRowsBy c.assumed c.program c.coil c.listed c.states c.claim c.from n (rows ++ row ∷ [])) (sym from)
+          (rows_more c.assumed c.program c.coil c.listed c.states c.claim rows c.from d.from gave.rows_are gave.later row gives.from
+          (here (λ x. AreDeniedBy x.assumed x.program x.coil x.listed x.states x.claim d.from row.number) gives.denied_before)
+          (λ settled. here (λ x. SaysBy x.assumed x.claim x.program x.coil x.listed x.states row.number) (gives.said settled)));
       same = gives.then ∙ ap (λ (x : PossibleCursor). record x { from = row.number + 1 }) gave.same
           ∙ ap (λ n. record c { from = n }) (sym from);
     }
@@ -98,7 +98,7 @@ ends_there a b w0 w1 c d s limit added within reached = record {
 
 -- Each further number is denied.
 pub ends : (a b : WriteLog) (w0 w1 : List ℕ) (c d e : PossibleCursor) (s : PossibleSummary) (limit : Option ℕ) → AddedRows a b w0 w1 c d s
-    → IfSome limit (λ n. s.rows ≤ n) → d.from ≤ 2 ^ length d.listed → AreDenied d.program d.coil d.listed d.states d.claim d.from (2 ^ length d.listed) → e ≡ record d { from = 2 ^ length d.listed }
+    → IfSome limit (λ n. s.rows ≤ n) → d.from ≤ 2 ^ length d.listed → AreDeniedBy d.assumed d.program d.coil d.listed d.states d.claim d.from (2 ^ length d.listed) → e ≡ record d { from = 2 ^ length d.listed }
     → AddsRows a b w0 w1 c e limit (Ok s)
 ends a b w0 w1 c d e s limit added few within none same =
     let gave = added.gave in
@@ -108,9 +108,9 @@ ends a b w0 w1 c d e s limit added few within none same =
       rows = added.rows;
       gave = record {
         later = omega (arith, gave.later, within, from);
-        rows_are = rows_end c.program c.coil c.listed c.states c.claim added.rows c.from d.from e.from gave.rows_are (omega (arith, within, from))
-            (subst (λ (n : ℕ). AreDenied c.program c.coil c.listed c.states c.claim d.from n) (sym from)
-            (subst (λ (x : PossibleCursor). AreDenied x.program x.coil x.listed x.states x.claim d.from (2 ^ length d.listed)) gave.same none));
+        rows_are = rows_end c.assumed c.program c.coil c.listed c.states c.claim added.rows c.from d.from e.from gave.rows_are (omega (arith, within, from))
+            (subst (λ (n : ℕ). AreDeniedBy c.assumed c.program c.coil c.listed c.states c.claim d.from n) (sym from)
+            (subst (λ (x : PossibleCursor). AreDeniedBy x.assumed x.program x.coil x.listed x.states x.claim d.from (2 ^ length d.listed)) gave.same none));
         same = same ∙ ap (λ (x : PossibleCursor). record x { from = 2 ^ length d.listed }) gave.same ∙ ap (λ n. record c { from = n }) (sym from);
       };
       few = few_rows limit added.rows s added.counts few;

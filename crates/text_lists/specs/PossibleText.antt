@@ -5,7 +5,7 @@ use Rattle.io_text.specs.Left.{Fields}
 use Rattle.io_text.specs.Text.{bit_text, lines_text}
 use Rattle.diagram_program.specs.Program.{Drawing}
 use Rattle.causes_query.specs.Assignment.{bit_of}
-use Rattle.causes_any_state.specs.Possible.{AreRows, PossibleCursor}
+use Rattle.causes_any_state.specs.Possible.{AreRowsBy, PossibleCursor}
 use Rattle.causes_any_state.specs.declared.possible.PossibleCause.{PossibleCause}
 use Rattle.text_causes.specs.CauseText.{name_of}
 use Rattle.text_lists.specs.declared.possible_text.PossibleSummary.{PossibleSummary}
@@ -32,7 +32,7 @@ IsCount s rows = (s.rows ≡ length rows) × (s.unsettled ≡ count_by (λ row. 
 -- A cursor gave these rows, and is where it is after them.
 pub record Gave (c : PossibleCursor) (rows : List PossibleCause) (d : PossibleCursor) : Type 0 where
   pub later : c.from ≤ d.from
-  pub rows_are : AreRows c.program c.coil c.listed c.states c.claim c.from d.from rows
+  pub rows_are : AreRowsBy c.assumed c.program c.coil c.listed c.states c.claim c.from d.from rows
   pub same : d ≡ record c { from = d.from }
 
 -- They are no more than a limit allows.

@@ -17,7 +17,7 @@ loop-limit-init g c =
     record {
       added = record {
         rows = [];
-        gave = record { later = omega arith; rows_are = no_rows asked.program asked.coil asked.listed asked.states asked.claim asked.from; same = refl };
+        gave = record { later = omega arith; rows_are = no_rows asked.assumed asked.program asked.coil asked.listed asked.states asked.claim asked.from; same = refl };
         sends = sends_none _ c.args.buffer.now;
         counts = (refl, refl);
       };
