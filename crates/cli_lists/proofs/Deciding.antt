@@ -7,7 +7,8 @@ use Rattle.cli_inputs.specs.Setting.{Given}
 use Rattle.cli_arguments.specs.declared.request.Grouping.{Grouping}
 use Rattle.cli_arguments.specs.declared.request.ListRequest.{ListRequest}
 use Rattle.cli_questions.specs.Ending.{BreaksOff}
-use Rattle.cli_lists.specs.Assumed.{AssumingFault, texts_of}
+use Rattle.cli_assumed.specs.Assumed.{AssumingFault}
+use Rattle.cli_lists.specs.Assumed.{texts_of}
 use Rattle.cli_lists.specs.AssumedRelevant.{AssumedGroupedBy, IsDecidedAssuming, RelevantBy, RelevantRefusal}
 use Rattle.cli_lists.specs.Lists.{BreaksRelevant, GroupedBy, HasRelevantFault, IsDecided, after_for}
 use Rattle.cli_questions.proofs.Endings.{breaks_asked, refuses_as}

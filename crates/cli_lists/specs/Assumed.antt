@@ -1,18 +1,13 @@
 -- How a request for a list ends where something is assumed of the inputs: the list is that of the combinations with which it is true.
-use Rattle.std.specs.Prelude.{◌≡◌, ◌⊎◌, ◌+◌, ◌<◌, ◌^◌, ℕ, ◌==◌, Bool, true, false, List, Option, None, length, map, string_bytes}
+use Rattle.std.specs.Prelude.{ℕ, ◌==◌, Bool, true, false, List, Option, None, length, map, string_bytes}
 use Rattle.st_expression.specs.declared.expression.Expression.{Expression}
-use Rattle.diagram_declarations.specs.Decls.{Declared}
 use Rattle.search_groups.specs.Groups.{Row}
 use Rattle.search_groups.specs.Groups as groups
 use Rattle.causes_query.specs.Causes.{Question}
 use Rattle.causes_query.specs.Refusal.{refusal}
 use Rattle.causes_one_scan.specs.Assuming.{assumed_causes_after, assumed_search_of, is_assumed_cause}
-use Rattle.assume_search.specs.Counted.{is_counted}
 use Rattle.causes_one_scan.specs.Cursor.{first_number}
 use Rattle.causes_one_scan.specs.GroupCursor.{causes_in}
-use Rattle.assume_reading.specs.Several.{AreAssumptions, IsFirstRefused}
-use Rattle.assume_reading.specs.declared.fault.AssumptionFault.{AssumptionFault}
-use Rattle.assume_reading.specs.declared.fault.AssumptionFault.TheVariants as assumption
 use Rattle.text_causes.specs.CauseText.{cause_text, limited}
 use Rattle.text_causes.specs.Parts.{part, part_looks}
 use Rattle.text_causes.specs.TermText.{form_text}
@@ -23,53 +18,13 @@ use Rattle.cli_arguments.specs.declared.request.GroupFormat.{GroupFormat}
 use Rattle.cli_arguments.specs.declared.request.Grouping.{Grouping}
 use Rattle.cli_arguments.specs.declared.request.ListRequest.{ListRequest}
 use Rattle.cli_inputs.specs.declared.fault.ToolFault.{ToolFault}
-use Rattle.cli_inputs.specs.declared.fault.ToolFault.TheVariants as fault
 use Rattle.cli_inputs.specs.Setting.{Given}
 use Rattle.cli_inputs.specs.Reports.{HasCauseFault, Logs}
 use Rattle.cli_questions.specs.declared.counting.ListCounts.TheVariants as counts
 use Rattle.cli_questions.specs.Ending.{BreaksAsked, CountsAsked, Form, HasRequestFault, Lists}
 use Rattle.cli_questions.specs.Forms.{form_on}
+use Rattle.cli_assumed.specs.Assumed.{Assuming, AssumingFault}
 use Rattle.cli_lists.specs.Lists.{CauseList, GroupList, list_refusal, ordered}
-
--- ---- what is assumed
-
--- The first expression that is refused: a word of it names no input, or it is none.
-abbrev pub assumption_fault : ℕ → AssumptionFault → ToolFault
-assumption_fault number assumption.Memory = fault.Memory
-assumption_fault number (assumption.NotAnInput start end) = fault.NoInput number (start + 1)
-assumption_fault number other = fault.Assumed number
-
--- A word that is refused isn't empty.
-abbrev pub IsWordAt : AssumptionFault → Type 0
-IsWordAt (assumption.NotAnInput start end) = start < end
-IsWordAt other = Unit {0}
-
-abbrev pub HasAssumptionFault : Declared → List (List ℕ) → ToolFault → Type 0
-HasAssumptionFault decls texts f = (number : ℕ) × (why : AssumptionFault) × IsFirstRefused decls texts number why × (f ≡ assumption_fault number why)
-
--- With some combination of the listed inputs it is true.
-abbrev pub IsEverTrue : Option Expression → Question → Type 0
-IsEverTrue assumed q = (n : ℕ) × (n < 2 ^ length q.listed) × (is_counted assumed q n ≡ true)
-
--- With none of them it is.
-abbrev pub IsNeverTrue : Option Expression → Question → Type 0
-IsNeverTrue assumed q = (n : ℕ) → n < 2 ^ length q.listed → is_counted assumed q n ≡ false
-
--- A form of what is assumed, by the expressions of a request.
-abbrev pub Assuming : (texts : List (List ℕ)) → (Option Expression → Form) → Form
-Assuming texts Is q text c = (assumed : Option Expression) × AreAssumptions q.program.decls texts assumed × IsEverTrue assumed q × Is assumed q text c
-
--- The question is refused, or none of its combinations counts.
-abbrev pub AssumedFault : Option Expression → (Question → ToolFault → Type 0) → Question → ToolFault → Type 0
-AssumedFault assumed Refused q f = Refused q f ⊎ ((f ≡ fault.NeverTrue) × IsNeverTrue assumed q)
-
--- Faults are looked for in the expressions first, and then in what is asked with them.
-abbrev pub AfterReading : (texts : List (List ℕ)) → (Option Expression → Question → ToolFault → Type 0) → Question → ToolFault → Type 0
-AfterReading texts Refused q f = HasAssumptionFault q.program.decls texts f
-    ⊎ ((assumed : Option Expression) × AreAssumptions q.program.decls texts assumed × Refused assumed q f)
-
-abbrev pub AssumingFault : (texts : List (List ℕ)) → (Question → ToolFault → Type 0) → Question → ToolFault → Type 0
-AssumingFault texts Refused = AfterReading texts (λ assumed. AssumedFault assumed Refused)
 
 abbrev pub texts_of : ListRequest → List (List ℕ)
 texts_of r = map string_bytes r.assumed.items

@@ -20,7 +20,8 @@ use Rattle.cli_inputs.specs.Setting.{Given}
 use Rattle.cli_inputs.specs.Reports.{Logs}
 use Rattle.cli_questions.specs.declared.counting.ListCounts.TheVariants as counts
 use Rattle.cli_questions.specs.Ending.{BreaksAsked, CountsAsked, Form, HasRequestFault, Lists}
-use Rattle.cli_lists.specs.Assumed.{Assuming, AssumingFault, assumes_nothing, texts_of}
+use Rattle.cli_assumed.specs.Assumed.{Assuming, AssumingFault}
+use Rattle.cli_lists.specs.Assumed.{assumes_nothing, texts_of}
 use Rattle.cli_lists.specs.Lists.{HeldBy, IsFirstFault, held_refusal_by}
 
 -- ---- a row for each cause

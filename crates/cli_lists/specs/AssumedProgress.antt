@@ -17,7 +17,8 @@ use Rattle.cli_inputs.specs.Reports.{IsReported, Logs}
 use Rattle.cli_questions.specs.declared.counting.ListCounts.{ListCounts}
 use Rattle.cli_questions.specs.declared.counting.ListCounts.TheVariants as counts
 use Rattle.cli_questions.specs.Ending.{IsAsked, counts_line, unless_quiet}
-use Rattle.cli_lists.specs.Assumed.{IsEverTrue, assumed_for, assumed_summary, assumed_text, assumes_nothing, texts_of}
+use Rattle.cli_assumed.specs.Assumed.{IsEverTrue}
+use Rattle.cli_lists.specs.Assumed.{assumed_for, assumed_summary, assumed_text, assumes_nothing, texts_of}
 use Rattle.cli_lists.specs.Lists.{BreaksProgress, CountsProgress, list_refusal}
 
 -- the text of the rows up to n

@@ -13,7 +13,8 @@ use Rattle.cli_inputs.specs.declared.fault.ToolFault.{ToolFault}
 use Rattle.cli_inputs.specs.Setting.{Given}
 use Rattle.cli_inputs.specs.Reports.{HasCauseFault, Logs}
 use Rattle.cli_questions.specs.Ending.{BreaksOff, Ends, Form, HasAskedFault, IsOnCoil, Listing, ListsAsked}
-use Rattle.cli_lists.specs.Assumed.{AfterReading, AssumedGroupList, AssumedList, AssumingFault, assumes_nothing, texts_of}
+use Rattle.cli_assumed.specs.Assumed.{AfterReading, AssumingFault}
+use Rattle.cli_lists.specs.Assumed.{AssumedGroupList, AssumedList, assumes_nothing, texts_of}
 use Rattle.cli_lists.specs.Lists.{GroupedBy, HasRelevantFault, IsDecided}
 
 -- The listed inputs decide what the scan leaves of the coil, and whether what is assumed is true.

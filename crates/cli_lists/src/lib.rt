@@ -10,7 +10,7 @@ mod listing;
 mod progress;
 mod relevant;
 
-pub use assuming::{list_causes_assuming, list_groups_assuming, read_assumed};
+pub use assuming::{list_causes_assuming, list_groups_assuming};
 pub use assuming_relevant::list_relevant_assuming;
 pub use holding::list_held;
 pub use progress::list_progress;

@@ -4,16 +4,17 @@ ghost use Rattle.std.specs.Prelude.{◌≡◌, ◌≢◌, ◌≤◌, ◌⊎◌, 
 ghost use Rattle.io_text.specs.Log.{WriteLog};
 ghost use Rattle.cli_questions.specs.Query.{question_of};
 ghost use Rattle.cli_questions.specs.Ending.{IsAsked};
-ghost use Rattle.cli_lists.specs.Assumed.{AssumedFault, HasCausesFault, IsEverTrue, assumes_nothing};
+ghost use Rattle.cli_assumed.specs.Assumed.{AssumedFault, IsEverTrue};
+ghost use Rattle.cli_lists.specs.Assumed.{HasCausesFault, assumes_nothing};
 ghost use Rattle.cli_lists.specs.AssumedProgress.{BreaksAllProgress, BreaksRows, CountsAllProgress, TellsRows, counts_by};
 ghost use Rattle.cli_lists.specs.Lists.{list_refusal};
 ghost use Rattle.scan_cycle.specs.Standing.{Fits};
 ghost use Rattle.cli_inputs.specs.Reports.{HasCauseFault, IsReported, Refuses, logs};
 ghost use Rattle.cli_inputs.specs.Setting.{given_by};
 
-use crate::assuming::{check_possible, read_assumed};
 use crate::listing::{CauseRows, assumed_cursor_of};
 use cli_arguments::ListRequest;
+use cli_assumed::{check_possible, read_assumed};
 use cli_inputs::{Texts, ToolFault, report};
 use cli_questions::{ListCounts, ListQuery, put_counts, read_request};
 use io_text::Sink;

@@ -11,10 +11,10 @@ use crate::coils::coil_names;
 use causes_query::CauseFault;
 use causes_query::refusal::refusal;
 use cli_arguments::{ListRequest, PossibleRequest, Request};
+use cli_assumed::read_assumed;
 use cli_inputs::{
     CauseVariables, Setting, Texts, ToolFault, asked_variables, moment, read_setting,
 };
-use cli_lists::read_assumed;
 use scan_held::{Scans, are_no_scans};
 use search_groups::BITS_LIMIT;
 use std::alloc::Global;

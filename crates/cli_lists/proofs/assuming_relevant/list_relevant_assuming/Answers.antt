@@ -6,7 +6,8 @@ use Rattle.cli_inputs.specs.Setting.{given_by}
 use Rattle.cli_questions.specs.Ending.{BreaksOff, Ends}
 use Rattle.cli_questions.specs.Query.{question_of}
 use Rattle.cli_questions.proofs.Endings.{ends_asked}
-use Rattle.cli_lists.specs.Assumed.{AssumedGroupList, AssumedList, AssumingFault, assumes_nothing, texts_of}
+use Rattle.cli_assumed.specs.Assumed.{AssumingFault}
+use Rattle.cli_lists.specs.Assumed.{AssumedGroupList, AssumedList, assumes_nothing, texts_of}
 use Rattle.cli_lists.specs.AssumedRelevant.{AssumedGroupedBy, IsDecidedAssuming}
 use Rattle.cli_lists.specs.Lists.{list_refusal}
 use Rattle.cli_lists.proofs.Deciding.{assumed_relevant_failed}

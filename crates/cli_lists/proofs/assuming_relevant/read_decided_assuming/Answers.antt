@@ -3,7 +3,7 @@ use Rattle.std.specs.Prelude.{None, string_bytes}
 use Rattle.causes_query.specs.Causes.{question}
 use Rattle.causes_query.specs.Refusal.{refusal}
 use Rattle.cli_inputs.specs.Reports.{HasCauseFault}
-use Rattle.cli_lists.specs.Assumed.{AfterReading}
+use Rattle.cli_assumed.specs.Assumed.{AfterReading}
 use Rattle.cli_lists.proofs.assuming_relevant.read_decided_assuming.Goals as goal
 
 pub returns-in-Err-found-clause-fault : goal.returns-in-Err-found-clause-fault

@@ -4,7 +4,8 @@ use Rattle.io_text.specs.Log.{PutsAll}
 use Rattle.cli_inputs.specs.Reports.{Refuses, logs}
 use Rattle.cli_inputs.specs.Setting.{given_by}
 use Rattle.cli_questions.specs.Ending.{BreaksAsked, CountsAsked, HasRequestFault}
-use Rattle.cli_lists.specs.Assumed.{AssumingFault, assumes_nothing, texts_of}
+use Rattle.cli_assumed.specs.Assumed.{AssumingFault}
+use Rattle.cli_lists.specs.Assumed.{assumes_nothing, texts_of}
 use Rattle.cli_lists.specs.AssumedHeld.{HeldAssuming}
 use Rattle.cli_lists.specs.Lists.{IsFirstFault, held_refusal_by}
 use Rattle.cli_lists.proofs.holding.list_held.Goals as goal

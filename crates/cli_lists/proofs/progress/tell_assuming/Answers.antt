@@ -7,7 +7,8 @@ use Rattle.cli_inputs.specs.Reports.{HasCauseFault, logs}
 use Rattle.cli_inputs.specs.Setting.{given_by}
 use Rattle.cli_questions.specs.Query.{question_of}
 use Rattle.cli_questions.proofs.Endings.{refuses_as}
-use Rattle.cli_lists.specs.Assumed.{AssumedFault, HasAssumptionFault, texts_of}
+use Rattle.cli_assumed.specs.Assumed.{AssumedFault, HasAssumptionFault}
+use Rattle.cli_lists.specs.Assumed.{texts_of}
 use Rattle.cli_lists.specs.AssumedProgress.{BreaksRows, TellsRows}
 use Rattle.cli_lists.specs.Lists.{list_refusal}
 use Rattle.cli_lists.proofs.progress.tell_assuming.Goals as goal

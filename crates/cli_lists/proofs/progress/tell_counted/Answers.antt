@@ -4,7 +4,7 @@ use Rattle.cli_inputs.specs.Reports.{HasCauseFault}
 use Rattle.cli_inputs.specs.Setting.{given_by}
 use Rattle.cli_questions.specs.Query.{question_of}
 use Rattle.cli_questions.proofs.Endings.{refuses_as}
-use Rattle.cli_lists.specs.Assumed.{IsNeverTrue}
+use Rattle.cli_assumed.specs.Assumed.{IsNeverTrue}
 use Rattle.cli_lists.specs.Lists.{list_refusal}
 use Rattle.cli_lists.proofs.Assumed.{few_listed, not_counted}
 use Rattle.cli_lists.proofs.progress.tell_counted.Goals as goal

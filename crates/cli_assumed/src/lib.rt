@@ -1,0 +1,8 @@
+//! What a request assumes of the inputs: it is read, and refused where it is never true.
+#![tactic(auto)]
+
+mod possible;
+mod reading;
+
+pub use possible::check_possible;
+pub use reading::read_assumed;
