@@ -101,6 +101,8 @@ pub struct PossibleRequest {
     pub all_inputs: bool,
     /// The names of the listed inputs, the first one most significant.
     pub inputs: Vec<String>,
+    /// The expressions of the inputs that are assumed to be true, in the order given.
+    pub assumed: Vec<String>,
 }
 
 /// What is shut out for ever by what is listed.
@@ -125,6 +127,8 @@ pub struct NeverRequest {
     pub quiet: bool,
     /// The file of the program text.
     pub file: String,
+    /// The expressions of the inputs that are assumed to be true, in the order given.
+    pub assumed: Vec<String>,
 }
 
 /// What a request for the drawing of one scan names.
@@ -253,6 +257,8 @@ pub struct ReachRequest {
     pub name: String,
     /// The names of the inputs that change; all do where none is named.
     pub inputs: Vec<String>,
+    /// The expressions of the inputs that are assumed to be true, in the order given.
+    pub assumed: Vec<String>,
 }
 
 /// What two programs do differently, and how it is written.
@@ -312,6 +318,10 @@ pub struct DiffRequest {
     pub aliases: bool,
     /// Whether a fault is explained, after its line.
     pub why: bool,
+    /// The expressions of the inputs that are assumed to be true, in the order given.
+    pub assumed: Vec<String>,
+    /// Whether what comments of each program text assume of its inputs is assumed too.
+    pub takes_comments: bool,
 }
 
 /// What a request names for what two programs do differently, name by name.
