@@ -1,6 +1,9 @@
 -- What is settled by cases is so after a scan.
-use Rattle.std.proofs.Common.{◌≡◌, ◌∙◌, ◌&&◌, ◌⊎◌, inl, inr, ℕ, Bool, true, false, List, [], ◌∷◌, map, get_or, set, zero, suc, refl, ap, subst}
+use Rattle.std.proofs.Common.{◌≡◌, ◌∙◌, ◌&&◌, ◌⊎◌, inl, inr, ℕ, Bool, true, false, List, [], ◌∷◌, map, get_or, set, zero, suc, refl, ap, subst, sym}
 use Rattle.std.proofs.lemmas.List.Elements.{All-contains}
+use Rattle.assume_truth.specs.Truth.{assumed_truth, is_allowed}
+use Rattle.assume_truth.proofs.Kept.{allowed_is, assumed_kept}
+use Rattle.st_expression.specs.Value.{held}
 use Rattle.diagram_declarations.specs.declared.decls.Symbol.{Symbol}
 use Rattle.diagram_declarations.specs.declared.decls.Symbol.TheVariants as symbol
 use Rattle.diagram_declarations.specs.declared.kind.BlockKind.{BlockKind}
@@ -8,20 +11,22 @@ use Rattle.diagram_declarations.specs.declared.kind.BlockKind.TheVariants.{Ton}
 use Rattle.diagram_program.specs.Program.{Drawing}
 use Rattle.scan_signals.specs.declared.block.Stored.{Stored}
 use Rattle.scan_signals.specs.Blocks.{q_of, new_block}
-use Rattle.scan_signals.specs.Truth.{plain}
+use Rattle.scan_signals.specs.Truth.{OnePlace, plain}
 use Rattle.scan_cycle.specs.Programs.{diagram_of}
 use Rattle.scan_cycle.specs.Rung.{Held}
-use Rattle.scan_signals.specs.Relations.{Both}
+use Rattle.scan_signals.specs.Relations.{Both, allows_kept}
 use Rattle.scan_cycle.specs.Scan.{after_scan}
 use Rattle.scan_symbolic.specs.KnownScan.{Known, after_known, all_known, kept_at, plainly}
 use Rattle.scan_symbolic.specs.KnownLaws.{BothAt, BothKnown, KnownIsScan, ScanKeeps}
 use Rattle.scan_symbolic.proofs.Lists.{get_both, map_same}
-use Rattle.scan_signals.specs.Three.{three, three_known, three_allows, three_meet}
+use Rattle.scan_signals.specs.Three.{AnyTri, three, three_known, three_allows, three_meet}
+use Rattle.scan_signals.specs.ThreeLaws.{three_allowed, three_lattice}
 use Rattle.scan_signals.specs.declared.tri.Tri.{Tri}
 use Rattle.scan_signals.specs.declared.tri.Tri.TheVariants.{Off, On, Unsure}
 use Rattle.invariant_cases.specs.Allowing.{Allows, AllowsState, AreApart, are_both_on, is_on_in}
 use Rattle.invariant_cases.specs.AnswerLaws.{OneAnswer, one_answer}
-use Rattle.invariant_cases.specs.Cases.{IsForcedOff, IsSettledBoth, answering, pinned, point_of, told, with_answer, with_q}
+use Rattle.invariant_cases.specs.Assuming.{Assumed, IsTrueIn, known_input, nothing, stored_inputs, truth_told}
+use Rattle.invariant_cases.specs.Cases.{IsForcedOff, IsSettledAssuming, IsSettledBoth, answering, pinned, point_of, told, with_answer, with_q}
 use Rattle.invariant_cases.specs.Cases as pairs_of
 use Rattle.invariant_cases.specs.declared.answer.Answer.{Answer}
 use Rattle.invariant_cases.specs.declared.answer.Answer.TheVariants.{Off as AnswersOff, On as AnswersOn, Input}
@@ -176,6 +181,34 @@ forced_off p now k h both pairs apart point (pairs_of.by_second pair among on e)
     ap (λ x. is_on_in x h) e
     ∙ then_first _ _ (All-contains (λ x. are_both_on h x ≡ false) pairs pair apart among) (told_is p now k h both pair.second true on)
 
+-- ---- what is assumed
+
+input_allowed : (vars : List ℕ) (xs : List Tri) (vs : List Bool) → ((i : ℕ) → Allows (get_or xs i Off) (get_or vs i false)) → (place : ℕ)
+    → Allows (known_input vars xs place) (get_or (stored_inputs vars vs) place false)
+input_allowed [] xs vs h place = (tt, λ _. refl)
+input_allowed (v ∷ vars) xs vs h zero = h v
+input_allowed (v ∷ vars) xs vs h (suc place) = input_allowed vars xs vs h place
+
+held_is : (values : List Bool) (i : ℕ) → get_or values i false ≡ held values i
+held_is [] i = refl
+held_is (v ∷ vs) zero = refl
+held_is (v ∷ vs) (suc i) = held_is vs i
+
+not_true : (b : Bool) → b ≡ false → b ≡ true → ⊥
+not_true b e f = cc
+
+-- What is told to be false is false in each state that what is known allows.
+false_told : (a : Assumed) (p : Drawing) (now : ℕ) (k : Known Tri Outcome) (h : Held) → AllowsState p now k h → truth_told a k ≡ three_known false → IsTrueIn a h → ⊥
+false_told a p now k h both told true_in =
+    let values = stored_inputs a.inputs h.values in
+    let at : (i : ℕ) → Allows (get_or k.values i Off) (get_or h.values i false) = λ i.
+    subst (λ (vs : List Bool). Allows (get_or k.values i Off) (get_or vs i false)) (map_same h.values)
+    (both_at Allows k.values (map (λ v. v) h.values) both.values Off false (tt, λ _. refl) i) in
+    let allows : Allows (truth_told a k) (assumed_truth plain (held values) a.expression) =
+    assumed_kept three plain Allows (allows_kept AnyTri three OnePlace three_allows three_lattice three_allowed 0) (known_input a.inputs k.values) (held values)
+    (λ place. subst (λ (b : Bool). Allows (known_input a.inputs k.values place) b) (held_is values place) (input_allowed a.inputs k.values h.values at place)) a.expression in
+    not_true (is_allowed a.expression values) (sym (allowed_is values a.expression) ∙ is_known _ _ false (allows.1 refl) told) true_in
+
 module _ (p : Drawing)
     (keeps : (now : ℕ) → ScanKeeps (diagram_of p) three plain outcomes plainly Allows (λ inst. MayStore ((diagram_of p).kind inst) ((diagram_of p).preset inst) now) 0 now)
     (known : KnownIsScan (diagram_of p)) where
@@ -188,23 +221,29 @@ module _ (p : Drawing)
       (known h now []) (keeps now [] [] tt k (all_known plain plainly h) both)
 
   -- After it both of the target are ON, or not, as it is settled.
-  pub settled_both : (pairs : List Pair) (target : Pair) (value : Bool) (k : Known Tri Outcome) → IsSettledBoth p pairs target value k → (now : ℕ) (h : Held) → AllowsState p now k h
-      → AreApart pairs h → are_both_on (after_scan (diagram_of p) now [] h) target ≡ value
-  settled_both pairs target value _ (pairs_of.by_scan k e) now h both apart =
+  pub settled_assuming : (a : Assumed) (pairs : List Pair) (target : Pair) (value : Bool) (k : Known Tri Outcome) → IsSettledAssuming p a pairs target value k
+      → (now : ℕ) (h : Held) → AllowsState p now k h → AreApart pairs h → IsTrueIn a h → are_both_on (after_scan (diagram_of p) now [] h) target ≡ value
+  settled_assuming a pairs target value _ (pairs_of.by_scan k e) now h both apart true_in =
       let then = told_is p now _ _ (scan_allows now k h both) in
       both_by (told (point_of target.first) (after_known three outcomes (diagram_of p) 0 [] k)) (told (point_of target.second) (after_known three outcomes (diagram_of p) 0 [] k))
       value _ _ e (λ v. then target.first v) (λ v. then target.second v)
-  settled_both pairs target value _ (pairs_of.by_partner k point forced more) now h both apart =
-      settled_both pairs target value (pinned k point (three_known false)) more now h
-      (subst (λ (b : Bool). AllowsState p now (pinned k point (three_known b)) h) (forced_off p now k h both pairs apart point forced) (pin_allows p now k h both point)) apart
-  settled_both pairs target value _ (pairs_of.by_cases k point off on) now h both apart =
+  settled_assuming a pairs target value _ (pairs_of.by_assumption k told) now h both apart true_in = absurd (false_told a p now k h both told true_in)
+  settled_assuming a pairs target value _ (pairs_of.by_partner k point forced more) now h both apart true_in =
+      settled_assuming a pairs target value (pinned k point (three_known false)) more now h
+      (subst (λ (b : Bool). AllowsState p now (pinned k point (three_known b)) h) (forced_off p now k h both pairs apart point forced) (pin_allows p now k h both point)) apart true_in
+  settled_assuming a pairs target value _ (pairs_of.by_cases k point off on) now h both apart true_in =
       let here = pin_allows p now k h both point in
       let Allowed = λ (b : Bool). AllowsState p now (pinned k point (three_known b)) h in
       either_case (is_on_in point h)
-      (λ e. settled_both pairs target value (pinned k point (three_known true)) on now h (subst Allowed e here) apart)
-      (λ e. settled_both pairs target value (pinned k point (three_known false)) off now h (subst Allowed e here) apart)
-  settled_both pairs target value _ (pairs_of.by_answers k inst off on input) now h both apart = elim (answer_allows p now k h both inst) [
-    | inl m ↦ settled_both pairs target value (answering k inst AnswersOff) off now h m apart
-    | inr (inl m) ↦ settled_both pairs target value (answering k inst AnswersOn) on now h m apart
-    | inr (inr m) ↦ settled_both pairs target value (answering k inst Input) input now h m apart
+      (λ e. settled_assuming a pairs target value (pinned k point (three_known true)) on now h (subst Allowed e here) apart true_in)
+      (λ e. settled_assuming a pairs target value (pinned k point (three_known false)) off now h (subst Allowed e here) apart true_in)
+  settled_assuming a pairs target value _ (pairs_of.by_answers k inst off on input) now h both apart true_in = elim (answer_allows p now k h both inst) [
+    | inl m ↦ settled_assuming a pairs target value (answering k inst AnswersOff) off now h m apart true_in
+    | inr (inl m) ↦ settled_assuming a pairs target value (answering k inst AnswersOn) on now h m apart true_in
+    | inr (inr m) ↦ settled_assuming a pairs target value (answering k inst Input) input now h m apart true_in
   ]
+
+  -- the same where nothing is assumed
+  pub settled_both : (pairs : List Pair) (target : Pair) (value : Bool) (k : Known Tri Outcome) → IsSettledBoth p pairs target value k → (now : ℕ) (h : Held) → AllowsState p now k h
+      → AreApart pairs h → are_both_on (after_scan (diagram_of p) now [] h) target ≡ value
+  settled_both pairs target value k is now h both apart = settled_assuming nothing pairs target value k is now h both apart refl

@@ -12,7 +12,8 @@ use Rattle.scan_symbolic.specs.KnownScan.{Known, all_known, plainly}
 use Rattle.scan_symbolic.specs.KnownLaws.{BothKnown}
 use Rattle.scan_signals.specs.Three.{AnyTri, three_allows}
 use Rattle.scan_signals.specs.declared.tri.Tri.{Tri}
-use Rattle.invariant_cases.specs.Cases.{IsSettledBoth, point_of}
+use Rattle.invariant_cases.specs.Assuming.{Assumed, IsTrueIn}
+use Rattle.invariant_cases.specs.Cases.{IsSettledAssuming, IsSettledBoth, point_of}
 use Rattle.invariant_cases.specs.Outcomes.{MayStore}
 use Rattle.invariant_cases.specs.declared.outcome.Outcome.{Outcome}
 use Rattle.invariant_cases.specs.declared.pair.Pair.{Pair}
@@ -43,7 +44,12 @@ abbrev pub AreApart : List Pair → Held → Type 0
 AreApart pairs h = All (λ pair. are_both_on h pair ≡ false) pairs
 
 -- What is settled of both of a target is so after one scan from each state that what is known allows, at the same moment, in which of no pair
--- both are ON. The scan gives no input a value, so that inputs keep theirs.
+-- both are ON and what is assumed is true. The scan gives no input a value, so that inputs keep theirs.
+abbrev pub SettledHoldsAssuming : Drawing → Type 0
+SettledHoldsAssuming p = (a : Assumed) (pairs : List Pair) (target : Pair) (value : Bool) (k : Known Tri Outcome) → IsSettledAssuming p a pairs target value k
+    → (moment : ℕ) (h : Held) → AllowsState p moment k h → AreApart pairs h → IsTrueIn a h → are_both_on (after_scan (diagram_of p) moment [] h) target ≡ value
+
+-- where nothing is assumed
 abbrev pub SettledBothHolds : Drawing → Type 0
 SettledBothHolds p = (pairs : List Pair) (target : Pair) (value : Bool) (k : Known Tri Outcome) → IsSettledBoth p pairs target value k
     → (moment : ℕ) (h : Held) → AllowsState p moment k h → AreApart pairs h → are_both_on (after_scan (diagram_of p) moment [] h) target ≡ value

@@ -9,6 +9,7 @@ use Rattle.scan_symbolic.specs.KnownScan.{Known, after_known, kept_at}
 use Rattle.scan_signals.specs.Three.{three, three_known, three_meet}
 use Rattle.scan_signals.specs.declared.tri.Tri.{Tri}
 use Rattle.scan_signals.specs.declared.tri.Tri.TheVariants.{Off, On, Unsure}
+use Rattle.invariant_cases.specs.Assuming.{Assumed, nothing, truth_told}
 use Rattle.invariant_cases.specs.Outcomes.{answer_known, outcomes, q_known}
 use Rattle.invariant_cases.specs.declared.answer.Answer.{Answer}
 use Rattle.invariant_cases.specs.declared.answer.Answer.TheVariants.{Off as AnswersOff, On as AnswersOn, Input, Open}
@@ -68,14 +69,21 @@ of_itself symbol = record { first = symbol; second = symbol }
 abbrev pub both_told : Pair → Known Tri Outcome → Tri
 both_told pair k = three_meet (told (point_of pair.first) k) (told (point_of pair.second) k)
 
--- Whether both of the target are ON after a scan from what is known, where of no pair both were ON, is this value: over three values the scan
--- tells it; or it is so from there with a point OFF that a pair forces to be, or both from there with some point OFF and from there with that
--- point ON, or from there with each of the three answers of some instance.
-pub data IsSettledBoth (p : Drawing) (pairs : List Pair) (target : Pair) (value : Bool) : Known Tri Outcome → Type 0 where
-  by_scan : (k : Known Tri Outcome) → both_told target (after_known three outcomes (diagram_of p) 0 [] k) ≡ three_known value → IsSettledBoth p pairs target value k
-  by_partner : (k : Known Tri Outcome) (point : Point) → IsForcedOff pairs k point → IsSettledBoth p pairs target value (pinned k point (three_known false))
-      → IsSettledBoth p pairs target value k
-  by_cases : (k : Known Tri Outcome) (point : Point) → IsSettledBoth p pairs target value (pinned k point (three_known false))
-      → IsSettledBoth p pairs target value (pinned k point (three_known true)) → IsSettledBoth p pairs target value k
-  by_answers : (k : Known Tri Outcome) (inst : ℕ) → IsSettledBoth p pairs target value (answering k inst AnswersOff)
-      → IsSettledBoth p pairs target value (answering k inst AnswersOn) → IsSettledBoth p pairs target value (answering k inst Input) → IsSettledBoth p pairs target value k
+-- Whether both of the target are ON after a scan from what is known, where of no pair both were ON and what is assumed of the inputs is true, is
+-- this value: over three values the scan tells it, or it is told that what is assumed is false; or it is so from there with a point OFF that a
+-- pair forces to be, or both from there with some point OFF and from there with that point ON, or from there with each of the three answers of
+-- some instance.
+pub data IsSettledAssuming (p : Drawing) (a : Assumed) (pairs : List Pair) (target : Pair) (value : Bool) : Known Tri Outcome → Type 0 where
+  by_scan : (k : Known Tri Outcome) → both_told target (after_known three outcomes (diagram_of p) 0 [] k) ≡ three_known value → IsSettledAssuming p a pairs target value k
+  by_assumption : (k : Known Tri Outcome) → truth_told a k ≡ three_known false → IsSettledAssuming p a pairs target value k
+  by_partner : (k : Known Tri Outcome) (point : Point) → IsForcedOff pairs k point → IsSettledAssuming p a pairs target value (pinned k point (three_known false))
+      → IsSettledAssuming p a pairs target value k
+  by_cases : (k : Known Tri Outcome) (point : Point) → IsSettledAssuming p a pairs target value (pinned k point (three_known false))
+      → IsSettledAssuming p a pairs target value (pinned k point (three_known true)) → IsSettledAssuming p a pairs target value k
+  by_answers : (k : Known Tri Outcome) (inst : ℕ) → IsSettledAssuming p a pairs target value (answering k inst AnswersOff)
+      → IsSettledAssuming p a pairs target value (answering k inst AnswersOn) → IsSettledAssuming p a pairs target value (answering k inst Input)
+      → IsSettledAssuming p a pairs target value k
+
+-- where nothing is assumed
+abbrev pub IsSettledBoth : Drawing → List Pair → Pair → Bool → Known Tri Outcome → Type 0
+IsSettledBoth p pairs target value k = IsSettledAssuming p nothing pairs target value k

@@ -4,11 +4,13 @@ ghost use Rattle.std.specs.Prelude.{◌≡◌, ◌≤◌, ◌<◌, [], length, I
 ghost use Rattle.scan_cycle.specs.Programs.{diagram_of};
 ghost use Rattle.scan_symbolic.specs.KnownScan.{after_known};
 ghost use Rattle.invariant_cases.specs.Buffers.{AreCaseBuffers, KeepBuffers};
-ghost use Rattle.invariant_cases.specs.Cases.{IsSettledBoth, both_told};
+ghost use Rattle.invariant_cases.specs.Assuming.{assumed_of};
+ghost use Rattle.invariant_cases.specs.Cases.{IsSettledAssuming, both_told};
 ghost use Rattle.invariant_cases.specs.Outcomes.{outcomes};
 ghost use Rattle.scan_signals.specs.Three.{three, three_known};
 
 use crate::answer::Answer;
+use crate::assumption::Assumption;
 use crate::buffers::CaseBuffers;
 use crate::choosing::choose;
 use crate::flow::ScanKnowledge;
@@ -23,13 +25,15 @@ use diagram_program::Program;
 use scan_partial::{Knowledge, scan_known};
 use scan_signals::{Operations, Tri};
 
-/// What is asked of a scan: whether both of a pair are ON after it, or that they aren't, as is wanted, where of no pair both are ON before it.
-/// A pair of one with itself is ON where that one is.
+/// What is asked of a scan: whether both of a pair are ON after it, or that they aren't, as is wanted, where of no pair both are ON before it and
+/// what is assumed of the inputs is true. A pair of one with itself is ON where that one is.
 #[derive(Clone, Copy)]
 pub struct Question<'a> {
     pub program: &'a Program,
     /// Where the program writes what.
     pub writers: &'a Writers,
+    /// What is assumed of the inputs.
+    pub assumption: Assumption<'a>,
     /// Of each not both are ON before the scan.
     pub pairs: &'a [Pair],
     pub target: Pair,
@@ -67,13 +71,38 @@ pub fn look(question: Question<'_>, buffers: &mut CaseBuffers) -> Tri
     both_told(question.target, &buffers.trial)
 }
 
+/// It is settled, and so many scans are left.
+fn settled(scans: u32) -> Search
+    ensures settled { IsTrue result.is_settled }
+    ensures scans { result.scans ≡ scans }
+{
+    Search {
+        is_settled: true,
+        scans,
+    }
+}
+
+/// The point that further cases are made of after a look: one that leaves open what is asked, or else whether what is assumed is true.
+fn next_point(question: Question<'_>, both: Tri, buffers: &CaseBuffers) -> Option<Point> {
+    let sight = ScanKnowledge {
+        program: question.program,
+        writers: question.writers,
+        before: &buffers.case,
+        after: &buffers.trial,
+    };
+    match (both, choose(sight, question.target)) {
+        (Tri::Unsure, Some(point)) => Some(point),
+        (Tri::Unsure | Tri::Off | Tri::On, _) => question.assumption.open_input(&buffers.case),
+    }
+}
+
 /// Whether what is asked is settled to be as is wanted after a scan from what is known in the case, by at most so many scans, with further
 /// cases. The case is the same afterwards.
 #[cycle(settling)]
 pub fn settle(question: Question<'_>, buffers: &mut CaseBuffers, scans: u32) -> Search
     requires { AreCaseBuffers question.program.now buffers.old }
     ensures settled { IsTrue result.is_settled
-        → IsSettledBoth question.entry.program.now question.entry.pairs.now question.entry.target question.entry.wanted buffers.old.case }
+        → IsSettledAssuming question.entry.program.now (assumed_of question.entry.assumption) question.entry.pairs.now question.entry.target question.entry.wanted buffers.old.case }
     ensures at_once { 0 < scans
         → both_told question.entry.target (after_known three outcomes (diagram_of question.entry.program.now) 0 [] buffers.old.case) ≡ three_known question.entry.wanted
         → IsTrue result.is_settled }
@@ -88,18 +117,19 @@ pub fn settle(question: Question<'_>, buffers: &mut CaseBuffers, scans: u32) -> 
         };
     }
     let left = scans - 1;
+    // No state counts that is in the case.
+    if question.assumption.is_false(&buffers.case) {
+        return settled(left);
+    }
     let both = look(question, buffers);
-    let sight = ScanKnowledge {
-        program: question.program,
-        writers: question.writers,
-        before: &buffers.case,
-        after: &buffers.trial,
-    };
-    match (both, choose(sight, question.target)) {
-        (Tri::Unsure, Some(Point::Answer(inst))) => by_answers(question, inst, buffers, left),
-        (Tri::Unsure, Some(point)) => by_values(question, point, buffers, left),
-        _ => Search {
-            is_settled: is_known(both, question.wanted),
+    if is_known(both, question.wanted) {
+        return settled(left);
+    }
+    match next_point(question, both, &*buffers) {
+        Some(Point::Answer(inst)) => by_answers(question, inst, buffers, left),
+        Some(point) => by_values(question, point, buffers, left),
+        None => Search {
+            is_settled: false,
             scans: left,
         },
     }
@@ -116,7 +146,7 @@ fn by_partners(
     requires number { number ≤ length question.pairs.now }
     requires buffers { AreCaseBuffers question.program.now buffers.old }
     ensures settled { IsTrue result.is_settled
-        → IsSettledBoth question.entry.program.now question.entry.pairs.now question.entry.target question.entry.wanted buffers.old.case }
+        → IsSettledAssuming question.entry.program.now (assumed_of question.entry.assumption) question.entry.pairs.now question.entry.target question.entry.wanted buffers.old.case }
     ensures scans { result.scans ≤ scans }
     ensures buffers { KeepBuffers question.entry.program.now buffers.old buffers.new }
 {
@@ -135,7 +165,7 @@ fn by_partners(
 fn by_values(question: Question<'_>, point: Point, buffers: &mut CaseBuffers, scans: u32) -> Search
     requires { AreCaseBuffers question.program.now buffers.old }
     ensures settled { IsTrue result.is_settled
-        → IsSettledBoth question.entry.program.now question.entry.pairs.now question.entry.target question.entry.wanted buffers.old.case }
+        → IsSettledAssuming question.entry.program.now (assumed_of question.entry.assumption) question.entry.pairs.now question.entry.target question.entry.wanted buffers.old.case }
     ensures scans { result.scans ≤ scans }
     ensures buffers { KeepBuffers question.entry.program.now buffers.old buffers.new }
 {
@@ -157,7 +187,7 @@ fn by_values(question: Question<'_>, point: Point, buffers: &mut CaseBuffers, sc
 fn by_answers(question: Question<'_>, inst: usize, buffers: &mut CaseBuffers, scans: u32) -> Search
     requires { AreCaseBuffers question.program.now buffers.old }
     ensures settled { IsTrue result.is_settled
-        → IsSettledBoth question.entry.program.now question.entry.pairs.now question.entry.target question.entry.wanted buffers.old.case }
+        → IsSettledAssuming question.entry.program.now (assumed_of question.entry.assumption) question.entry.pairs.now question.entry.target question.entry.wanted buffers.old.case }
     ensures scans { result.scans ≤ scans }
     ensures buffers { KeepBuffers question.entry.program.now buffers.old buffers.new }
 {

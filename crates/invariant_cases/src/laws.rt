@@ -3,7 +3,7 @@
 ghost use Rattle.scan_signals.specs.Relations.{AllowsAt, allows_kept};
 ghost use Rattle.scan_signals.specs.Truth.{OnePlace};
 ghost use Rattle.scan_symbolic.specs.KnownScan.{plainly};
-ghost use Rattle.invariant_cases.specs.Allowing.{SettledBothHolds};
+ghost use Rattle.invariant_cases.specs.Allowing.{SettledBothHolds, SettledHoldsAssuming};
 ghost use Rattle.invariant_cases.specs.OutcomeLaws.{outcomes_keep};
 ghost use Rattle.invariant_cases.specs.Outcomes.{MayStore, outcomes};
 ghost use Rattle.scan_signals.specs.Three.{AnyTri, three, three_allows};
@@ -46,8 +46,16 @@ impl StepRelation for Allowing {
     ghost steps = { λ at d. outcomes_keep at.now d };
 }
 
-/// What is settled of both of a pair is so after a scan from each state that what is known allows at its moment, in which of no pair both are ON,
-/// where inputs keep their values.
+/// What is settled of both of a pair is so after a scan from each state that what is known allows at its moment, in which of no pair both are ON
+/// and what is assumed is true, where inputs keep their values.
+pub fn settled_assuming(program: &Program)
+    ensures { SettledHoldsAssuming program.now }
+{
+    scan_keeps::<Allowing>();
+    known_is_scan(program);
+}
+
+/// The same where nothing is assumed.
 pub fn settled_both(program: &Program)
     ensures { SettledBothHolds program.now }
 {

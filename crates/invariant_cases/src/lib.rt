@@ -5,6 +5,7 @@
 #![tactic(auto)]
 
 mod answer;
+mod assumption;
 pub mod buffers;
 pub mod cases;
 pub mod choosing;
@@ -21,6 +22,7 @@ mod table;
 mod writers;
 
 pub use answer::Answer;
+pub use assumption::Assumption;
 pub use buffers::CaseBuffers;
 pub use cases::Question;
 pub use flow::ScanKnowledge;
