@@ -1,7 +1,9 @@
 //! What is assumed of the inputs.
 
-ghost use Rattle.std.specs.Prelude.{◌≡◌, ◌↔◌, IsTrue, false};
+ghost use Rattle.std.specs.Prelude.{◌≡◌, ◌↔◌, IsTrue, false, slice_index_or};
+ghost use Rattle.assume_truth.specs.Truth.{assumed_truth};
 ghost use Rattle.scan_signals.specs.Three.{three_known};
+ghost use Rattle.scan_signals.specs.Truth.{plain};
 ghost use Rattle.invariant_cases.specs.Assuming.{assumed_of, nothing, truth_told};
 
 use crate::outcome::Outcome;
@@ -43,6 +45,27 @@ impl<'a> Inputs for KnownInputs<'a> {
     }
 }
 
+/// The inputs as a scan gives them.
+#[derive(Clone, Copy)]
+struct GivenInputs<'a> {
+    values: &'a [bool],
+}
+
+impl<'a> Inputs for GivenInputs<'a> {
+    ghost use Rattle.std.specs.Prelude.{false, slice_index_or};
+
+    type Signal = bool;
+
+    ghost signal = { λ i place. slice_index_or i.values.now place false };
+
+    fn signal(&self, place: usize) -> bool {
+        match self.values.get(place) {
+            Some(value) => *value,
+            None => false,
+        }
+    }
+}
+
 impl<'a> Assumption<'a> {
     /// Each state counts.
     pub fn nothing() -> Assumption<'a>
@@ -52,6 +75,14 @@ impl<'a> Assumption<'a> {
             inputs: &[],
             expression: None,
         }
+    }
+
+    /// Whether it is true with these values of the inputs, in order of declaration.
+    pub fn allows(self, values: &[bool]) -> bool
+        ensures { result ≡ assumed_truth plain (λ place. slice_index_or values.now place false) (assumed_of self.entry).expression }
+    {
+        let inputs = GivenInputs { values };
+        assumed_truth(self.expression, &inputs)
     }
 
     /// Whether it is known to be false.

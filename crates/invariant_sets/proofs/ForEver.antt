@@ -22,14 +22,15 @@ use Rattle.scan_symbolic.specs.KnownScan.{plainly}
 use Rattle.scan_symbolic.specs.KnownLaws.{KnownIsScan, ScanKeeps}
 use Rattle.scan_signals.specs.Three.{three}
 use Rattle.invariant_cases.specs.Allowing.{Allows, AllowsState, AreApart, are_both_on, is_on_in}
-use Rattle.invariant_cases.specs.Cases.{IsSettledBoth, of_itself, point_of}
+use Rattle.invariant_cases.specs.Assuming.{Assumed, IsTrueIn, nothing}
+use Rattle.invariant_cases.specs.Cases.{IsSettledAssuming, of_itself, point_of}
 use Rattle.invariant_cases.specs.Outcomes.{MayStore, outcomes}
 use Rattle.invariant_cases.specs.declared.pair.Pair.{Pair}
-use Rattle.invariant_cases.proofs.Settling.{settled_both}
-use Rattle.invariant_sets.specs.Invariants.{IsSettledSo, KnowingAllows, StaysForEver}
+use Rattle.invariant_cases.proofs.Settling.{settled_assuming}
+use Rattle.invariant_sets.specs.Invariants.{AreAllowed, IsSettledSoAssuming, KnowingAllows, StaysAssuming, StaysForEver}
 use Rattle.scan_cycle.specs.Runs.{OneScan, after_each}
 use Rattle.invariant_sets.specs.Never.{Bits, IsSetOf, IsSo, claims, knowing}
-use Rattle.invariant_sets.specs.Pairs.{ArePairs, IsOutside, IsPairOutside}
+use Rattle.invariant_sets.specs.Pairs.{ArePairsAssuming, IsOutside, IsPairOutside}
 use Rattle.invariant_sets.proofs.Listed.{blocks_allow, given_none, given_same, memories_allow, no_input_in, values_allow}
 
 kind_of : (instances : List Instance) (i : ℕ) → unwrap_or (option_map (λ x. x.kind) (slice_get instances i)) Ton ≡ get_or (map (λ x. x.kind) instances) i Ton
@@ -99,26 +100,27 @@ twice false value e = e
 
 module _ (p : Drawing) (sound : IsSound (diagram_of p))
     (keeps : (now : ℕ) → ScanKeeps (diagram_of p) three plain outcomes plainly Allows (λ inst. MayStore ((diagram_of p).kind inst) ((diagram_of p).preset inst) now) 0 now)
-    (known : KnownIsScan (diagram_of p)) (s : Standing) (z : Bits) (set : IsSetOf p z) (pairs : List Pair) (are : ArePairs p s z pairs) (settled : IsSettledSo p z pairs) where
+    (known : KnownIsScan (diagram_of p)) (s : Standing) (z : Bits) (set : IsSetOf p z) (a : Assumed) (pairs : List Pair)
+    (are : ArePairsAssuming p a s z pairs) (settled : IsSettledSoAssuming p a z pairs) where
   -- ---- what is settled of a target is so after a scan
-  target_then : (target : Pair) (value : Bool) → IsSettledBoth p pairs target value (knowing p z) → (h : Held) → Holds p z h → AreApart pairs h → (now : ℕ) (inputs : List Bool)
-      → are_both_on (after_scan (diagram_of p) now inputs h) target ≡ value
-  target_then target value is h holds apart now inputs =
+  target_then : (target : Pair) (value : Bool) → IsSettledAssuming p a pairs target value (knowing p z) → (h : Held) → Holds p z h → AreApart pairs h
+      → (now : ℕ) (inputs : List Bool) → IsTrueIn a (begun p inputs h) → are_both_on (after_scan (diagram_of p) now inputs h) target ≡ value
+  target_then target value is h holds apart now inputs true_in =
       subst (λ (next : Held). are_both_on next target ≡ value) (scan_begun p now inputs h)
-      (settled_both p keeps known pairs target value (knowing p z) is now (begun p inputs h)
-      (knowing_holds p z set now (begun p inputs h) (holds_begun p z set inputs h holds)) (begun_apart p z pairs are.outside h apart inputs))
+      (settled_assuming p keeps known a pairs target value (knowing p z) is now (begun p inputs h)
+      (knowing_holds p z set now (begun p inputs h) (holds_begun p z set inputs h holds)) (begun_apart p z pairs are.outside h apart inputs) true_in)
 
-  still_so : (h : Held) → Holds p z h → AreApart pairs h → (now : ℕ) (inputs : List Bool) → IsSo z (after_scan (diagram_of p) now inputs h)
-  still_so h holds apart now inputs = record {
-    variables = λ var value m. twice _ value (target_then (of_itself (symbol.Var var)) value (settled.variables var value m) h holds apart now inputs);
-    instances = λ inst value m. twice _ value (target_then (of_itself (symbol.Instance inst)) value (settled.instances inst value m) h holds apart now inputs);
+  still_so : (h : Held) → Holds p z h → AreApart pairs h → (now : ℕ) (inputs : List Bool) → IsTrueIn a (begun p inputs h) → IsSo z (after_scan (diagram_of p) now inputs h)
+  still_so h holds apart now inputs true_in = record {
+    variables = λ var value m. twice _ value (target_then (of_itself (symbol.Var var)) value (settled.variables var value m) h holds apart now inputs true_in);
+    instances = λ inst value m. twice _ value (target_then (of_itself (symbol.Instance inst)) value (settled.instances inst value m) h holds apart now inputs true_in);
   }
 
-  still_apart : (h : Held) → Holds p z h → AreApart pairs h → (now : ℕ) (inputs : List Bool) → AreApart pairs (after_scan (diagram_of p) now inputs h)
-  still_apart h holds apart now inputs = λ k d l. target_then (get_or pairs k d) false (are.excluded k d l) h holds apart now inputs
+  still_apart : (h : Held) → Holds p z h → AreApart pairs h → (now : ℕ) (inputs : List Bool) → IsTrueIn a (begun p inputs h) → AreApart pairs (after_scan (diagram_of p) now inputs h)
+  still_apart h holds apart now inputs true_in = λ k d l. target_then (get_or pairs k d) false (are.excluded k d l) h holds apart now inputs true_in
 
-  still_holds : (h : Held) → Holds p z h → AreApart pairs h → (now : ℕ) (inputs : List Bool) → Holds p z (after_scan (diagram_of p) now inputs h)
-  still_holds h holds apart now inputs =
+  still_holds : (h : Held) → Holds p z h → AreApart pairs h → (now : ℕ) (inputs : List Bool) → IsTrueIn a (begun p inputs h) → Holds p z (after_scan (diagram_of p) now inputs h)
+  still_holds h holds apart now inputs true_in =
       let d = diagram_of p in
       let start : Held = record { values = given d.inputs inputs h.values; kept = h.kept } in
       let by_rungs : after_scan d now inputs h ≡ (scanned d now start d.rungs).held = sym (scanned_is d sound.forward now start) in
@@ -127,15 +129,22 @@ module _ (p : Drawing) (sound : IsSound (diagram_of p))
         values = lengths.values ∙ holds.values;
         memories = lengths.memories ∙ holds.memories;
         shapes = ap (λ (x : Held). map shape x.kept.blocks) by_rungs ∙ scanned_shapes d now start d.rungs ∙ holds.shapes;
-        so = still_so h holds apart now inputs;
+        so = still_so h holds apart now inputs true_in;
       }
 
-  -- ---- and after any scans
-  so_after : (scans : List OneScan) (h : Held) → Holds p z h → AreApart pairs h → IsSo z (after_each (diagram_of p) scans h) × AreApart pairs (after_each (diagram_of p) scans h)
+  -- ---- and after any scans in which what is assumed is true
+  so_after : (scans : List OneScan) (h : Held) → AreAllowed p a scans h → Holds p z h → AreApart pairs h
+      → IsSo z (after_each (diagram_of p) scans h) × AreApart pairs (after_each (diagram_of p) scans h)
   unfolding after_each
-  so_after [] h holds apart = (holds.so, apart)
-  so_after (scan ∷ more) h holds apart =
-      so_after more (after_scan (diagram_of p) scan.moment scan.inputs h) (still_holds h holds apart scan.moment scan.inputs) (still_apart h holds apart scan.moment scan.inputs)
+  so_after [] h allowed holds apart = (holds.so, apart)
+  so_after (scan ∷ more) h allowed holds apart =
+      so_after more (after_scan (diagram_of p) scan.moment scan.inputs h) allowed.1 (still_holds h holds apart scan.moment scan.inputs allowed.0)
+      (still_apart h holds apart scan.moment scan.inputs allowed.0)
+
+-- Where nothing is assumed any scans are allowed.
+pub all_allowed : (p : Drawing) (scans : List OneScan) (h : Held) → AreAllowed p nothing scans h
+all_allowed p [] h = tt
+all_allowed p (scan ∷ more) h = (refl, all_allowed p more (after_scan (diagram_of p) scan.moment scan.inputs h))
 
 pub standing_holds : (p : Drawing) (s : Standing) → Fits p s → IsStanding s → (z : Bits) → IsSo z s.held → Holds p z s.held
 standing_holds p s fits standing z so = record {
@@ -148,8 +157,11 @@ standing_holds p s fits standing z so = record {
 pub knowing_allows : (p : Drawing) → KnowingAllows p
 knowing_allows p s fits standing z set so moment = knowing_holds p z set moment s.held (standing_holds p s fits standing z so)
 
-pub stays_for_ever : (p : Drawing) → IsSound (diagram_of p)
+pub stays_assuming : (p : Drawing) → IsSound (diagram_of p)
     → ((now : ℕ) → ScanKeeps (diagram_of p) three plain outcomes plainly Allows (λ inst. MayStore ((diagram_of p).kind inst) ((diagram_of p).preset inst) now) 0 now)
-    → KnownIsScan (diagram_of p) → StaysForEver p
-stays_for_ever p sound keeps known s fits standing z set so pairs are settled scans =
-    so_after p sound keeps known s z set pairs are settled scans s.held (standing_holds p s fits standing z so) are.apart
+    → KnownIsScan (diagram_of p) → StaysAssuming p
+stays_assuming p sound keeps known a s fits standing z set so pairs are settled scans allowed =
+    so_after p sound keeps known s z set a pairs are settled scans s.held allowed (standing_holds p s fits standing z so) are.apart
+
+pub stays_for_ever : (p : Drawing) → StaysAssuming p → StaysForEver p
+stays_for_ever p stays s fits standing z set so pairs are settled scans = stays nothing s fits standing z set so pairs are settled scans (all_allowed p scans s.held)

@@ -14,7 +14,8 @@ use Rattle.invariant_sets.specs.Never.{Bits, knowing}
 use Rattle.invariant_cases.specs.declared.outcome.Outcome.{Outcome}
 use Rattle.invariant_sets.specs.Beginning.{AddsPairs, HasEach, MayAdd, MustHave}
 use Rattle.invariant_cases.specs.Allowing.{AreApart, are_both_on}
-use Rattle.invariant_sets.specs.Pairs.{ArePairs, IsExcluded, IsOutside, IsPairOutside}
+use Rattle.invariant_cases.specs.Assuming.{Assumed}
+use Rattle.invariant_sets.specs.Pairs.{ArePairsAssuming, IsExcludedAssuming, IsOutside, IsPairOutside}
 use Rattle.invariant_cases.specs.declared.pair.Pair.{Pair}
 
 -- ---- added
@@ -85,23 +86,23 @@ fewer all xs ys i h e =
 pub within_both : (all xs ys : List Pair) → All (Contains all) xs → All (Contains xs) ys → All (Contains all) ys
 within_both all xs ys h g = All-weaker (Contains xs) (Contains all) (λ x c. All-contains (Contains all) xs x h c) ys g
 
-pub one_excluded : (p : Drawing) (xs ys : List Pair) (k l : Known Tri Outcome) (i : ℕ) (pair : Pair) → i < length xs → All (λ x. IsExcluded p xs x k) (take i xs)
-    → IsExcluded p ys pair l → ys ≡ xs → l ≡ k → pair ≡ get_or xs i pair → All (λ x. IsExcluded p xs x k) (take (i + 1) xs)
-one_excluded p xs ys k l i pair h all one e f g =
-    All-more (λ x. IsExcluded p xs x k) xs i pair h all
-    (subst (λ (x : Pair). IsExcluded p xs x k) g
-    (subst (λ (m : Known Tri Outcome). IsExcluded p xs pair m) f (subst (λ (zs : List Pair). IsExcluded p zs pair l) e one)))
+pub one_excluded : (p : Drawing) (a : Assumed) (xs ys : List Pair) (k l : Known Tri Outcome) (i : ℕ) (pair : Pair) → i < length xs → All (λ x. IsExcludedAssuming p a xs x k) (take i xs)
+    → IsExcludedAssuming p a ys pair l → ys ≡ xs → l ≡ k → pair ≡ get_or xs i pair → All (λ x. IsExcludedAssuming p a xs x k) (take (i + 1) xs)
+one_excluded p a xs ys k l i pair h all one e f g =
+    All-more (λ x. IsExcludedAssuming p a xs x k) xs i pair h all
+    (subst (λ (x : Pair). IsExcludedAssuming p a xs x k) g
+    (subst (λ (m : Known Tri Outcome). IsExcludedAssuming p a xs pair m) f (subst (λ (zs : List Pair). IsExcludedAssuming p a zs pair l) e one)))
 
-pub all_excluded : (p : Drawing) (xs : List Pair) (k : Known Tri Outcome) (n : ℕ) → length xs ≤ n → All (λ x. IsExcluded p xs x k) (take n xs) → All (λ x. IsExcluded p xs x k) xs
-all_excluded p xs k n h all = subst (All (λ x. IsExcluded p xs x k)) (take_all n xs h) all
+pub all_excluded : (p : Drawing) (a : Assumed) (xs : List Pair) (k : Known Tri Outcome) (n : ℕ) → length xs ≤ n → All (λ x. IsExcludedAssuming p a xs x k) (take n xs) → All (λ x. IsExcludedAssuming p a xs x k) xs
+all_excluded p a xs k n h all = subst (All (λ x. IsExcludedAssuming p a xs x k)) (take_all n xs h) all
 
-pub excluded_from : (p : Drawing) (xs : List Pair) (k l : Known Tri Outcome) → k ≡ l → All (λ x. IsExcluded p xs x k) xs → All (λ x. IsExcluded p xs x l) xs
-excluded_from p xs k l e all = subst (λ (m : Known Tri Outcome). All (λ x. IsExcluded p xs x m) xs) e all
+pub excluded_from : (p : Drawing) (a : Assumed) (xs : List Pair) (k l : Known Tri Outcome) → k ≡ l → All (λ x. IsExcludedAssuming p a xs x k) xs → All (λ x. IsExcludedAssuming p a xs x l) xs
+excluded_from p a xs k l e all = subst (λ (m : Known Tri Outcome). All (λ x. IsExcludedAssuming p a xs x m) xs) e all
 
-pub are_pairs : (p : Drawing) (s : Standing) (z : Bits) (before left : List Pair) (k : Known Tri Outcome) → All (IsPairOutside p z) before → AreApart before s.held
-    → All (Contains before) left → All (λ x. IsExcluded p left x k) left → k ≡ knowing p z → ArePairs p s z left
-are_pairs p s z before left k outside apart within excluded e = record {
+pub are_pairs : (p : Drawing) (a : Assumed) (s : Standing) (z : Bits) (before left : List Pair) (k : Known Tri Outcome) → All (IsPairOutside p z) before → AreApart before s.held
+    → All (Contains before) left → All (λ x. IsExcludedAssuming p a left x k) left → k ≡ knowing p z → ArePairsAssuming p a s z left
+are_pairs p a s z before left k outside apart within excluded e = record {
   outside = All-weaker (Contains before) (IsPairOutside p z) (λ x h. All-contains (IsPairOutside p z) before x outside h) left within;
   apart = All-weaker (Contains before) (λ x. are_both_on s.held x ≡ false) (λ x h. All-contains (λ y. are_both_on s.held y ≡ false) before x apart h) left within;
-  excluded = excluded_from p left k (knowing p z) e excluded;
+  excluded = excluded_from p a left k (knowing p z) e excluded;
 }

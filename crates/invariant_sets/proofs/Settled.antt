@@ -11,7 +11,8 @@ use Rattle.scan_symbolic.specs.KnownScan.{Known, after_known, kept_at}
 use Rattle.scan_signals.specs.Three.{three, three_known, three_meet}
 use Rattle.scan_signals.specs.declared.tri.Tri.{Tri}
 use Rattle.scan_signals.specs.declared.tri.Tri.TheVariants.{Off, On, Unsure}
-use Rattle.invariant_cases.specs.Cases.{IsForcedOff, IsSettledBoth, answering, by_answers, by_cases, by_partner, by_scan, of_itself, pinned, point_of, told}
+use Rattle.invariant_cases.specs.Cases.{IsForcedOff, IsSettledAssuming, answering, by_answers, by_assumption, by_cases, by_partner, by_scan, of_itself, pinned, point_of, told}
+use Rattle.invariant_cases.specs.Assuming.{Assumed}
 use Rattle.invariant_cases.specs.Cases as cases
 use Rattle.invariant_cases.specs.Buffers.{KeepBuffers}
 use Rattle.invariant_cases.specs.declared.buffers.CaseBuffers.{CaseBuffers}
@@ -23,9 +24,9 @@ use Rattle.invariant_cases.specs.declared.point.Point.{Point}
 use Rattle.invariant_cases.specs.declared.point.Point.TheVariants.{Variable, Output}
 use Rattle.invariant_cases.proofs.Values.{known_beside, known_within}
 use Rattle.invariant_sets.proofs.Claims.{within_all}
-use Rattle.invariant_sets.specs.Invariants.{IsSettledSo}
+use Rattle.invariant_sets.specs.Invariants.{IsSettledSoAssuming}
 use Rattle.invariant_sets.specs.Never.{Bits, IsSetOf, knowing}
-use Rattle.invariant_sets.specs.Pairs.{ArePairs, IsExcluded, IsPairOutside}
+use Rattle.invariant_sets.specs.Pairs.{ArePairsAssuming, IsExcludedAssuming, IsPairOutside}
 use Rattle.invariant_sets.specs.Removing.{IsLeftOf, IsLeftSo, left_so}
 
 -- what is known of a variable and of a Q is told
@@ -60,11 +61,11 @@ set_of variables instances = record { variables = variables; instances = instanc
 pub same_bits : (xs ys zs ws : List Tri) → xs ≡ zs → ys ≡ ws → set_of xs ys ≡ set_of zs ws
 same_bits xs ys zs ws e f = ap (λ (vs : List Tri). set_of vs ys) e ∙ ap (set_of zs) f
 
-pub left_settled : {p : Drawing} {pairs : List Pair} {symbol : Symbol} {after case : Known Tri Outcome} {scans : ℕ} {value : Bool} → IsLeftSo p pairs symbol after case scans value
-    → IsSettledBoth p pairs (of_itself symbol) value case
+pub left_settled : {p : Drawing} {a : Assumed} {pairs : List Pair} {symbol : Symbol} {after case : Known Tri Outcome} {scans : ℕ} {value : Bool} → IsLeftSo p a pairs symbol after case scans value
+    → IsSettledAssuming p a pairs (of_itself symbol) value case
 left_settled (left_so settled plain) = settled
 
-pub left_plain : {p : Drawing} {pairs : List Pair} {symbol : Symbol} {after case : Known Tri Outcome} {scans : ℕ} {value : Bool} → IsLeftSo p pairs symbol after case scans value
+pub left_plain : {p : Drawing} {a : Assumed} {pairs : List Pair} {symbol : Symbol} {after case : Known Tri Outcome} {scans : ℕ} {value : Bool} → IsLeftSo p a pairs symbol after case scans value
     → scans ≡ 0 → told (point_of symbol) after ≡ three_known value
 left_plain (left_so settled plain) = plain
 
@@ -81,9 +82,9 @@ both_same On = refl
 both_same Unsure = refl
 
 -- What one scan tells of one is settled.
-pub told_settled : (p : Drawing) (pairs : List Pair) (symbol : Symbol) (value : Bool) (k : Known Tri Outcome)
-    → told (point_of symbol) (after_known three outcomes (diagram_of p) 0 [] k) ≡ three_known value → IsSettledBoth p pairs (of_itself symbol) value k
-told_settled p pairs symbol value k e = by_scan k (both_same (told (point_of symbol) (after_known three outcomes (diagram_of p) 0 [] k)) ∙ e)
+pub told_settled : (p : Drawing) (a : Assumed) (pairs : List Pair) (symbol : Symbol) (value : Bool) (k : Known Tri Outcome)
+    → told (point_of symbol) (after_known three outcomes (diagram_of p) 0 [] k) ≡ three_known value → IsSettledAssuming p a pairs (of_itself symbol) value k
+told_settled p a pairs symbol value k e = by_scan k (both_same (told (point_of symbol) (after_known three outcomes (diagram_of p) 0 [] k)) ∙ e)
 
 -- ---- what is settled without pairs is with any
 
@@ -94,26 +95,28 @@ not_forced : (k : Known Tri Outcome) (point : Point) → IsForcedOff [] k point 
 not_forced k point (cases.by_first pair among on e) = none_among pair among
 not_forced k point (cases.by_second pair among on e) = none_among pair among
 
-without_pairs : (p : Drawing) (pairs : List Pair) (target : Pair) (value : Bool) (k : Known Tri Outcome) → IsSettledBoth p [] target value k → IsSettledBoth p pairs target value k
-without_pairs p pairs target value _ (by_scan k e) = by_scan k e
-without_pairs p pairs target value _ (by_partner k point forced more) = absurd (not_forced k point forced)
-without_pairs p pairs target value _ (by_cases k point off on) =
-    by_cases k point (without_pairs p pairs target value (pinned k point (three_known false)) off) (without_pairs p pairs target value (pinned k point (three_known true)) on)
-without_pairs p pairs target value _ (by_answers k inst off on input) =
-    by_answers k inst (without_pairs p pairs target value (answering k inst AnswersOff) off) (without_pairs p pairs target value (answering k inst AnswersOn) on)
-    (without_pairs p pairs target value (answering k inst Input) input)
+without_pairs : (p : Drawing) (a : Assumed) (pairs : List Pair) (target : Pair) (value : Bool) (k : Known Tri Outcome) → IsSettledAssuming p a [] target value k
+    → IsSettledAssuming p a pairs target value k
+without_pairs p a pairs target value _ (by_scan k e) = by_scan k e
+without_pairs p a pairs target value _ (by_assumption k told) = by_assumption k told
+without_pairs p a pairs target value _ (by_partner k point forced more) = absurd (not_forced k point forced)
+without_pairs p a pairs target value _ (by_cases k point off on) =
+    by_cases k point (without_pairs p a pairs target value (pinned k point (three_known false)) off) (without_pairs p a pairs target value (pinned k point (three_known true)) on)
+without_pairs p a pairs target value _ (by_answers k inst off on input) =
+    by_answers k inst (without_pairs p a pairs target value (answering k inst AnswersOff) off) (without_pairs p a pairs target value (answering k inst AnswersOn) on)
+    (without_pairs p a pairs target value (answering k inst Input) input)
 
-pub alone_settled : (p : Drawing) (z : Bits) (pairs : List Pair) → IsSettledSo p z [] → IsSettledSo p z pairs
-alone_settled p z pairs settled = record {
-  variables = λ var value m. without_pairs p pairs _ value _ (settled.variables var value m);
-  instances = λ inst value m. without_pairs p pairs _ value _ (settled.instances inst value m);
+pub alone_settled : (p : Drawing) (a : Assumed) (z : Bits) (pairs : List Pair) → IsSettledSoAssuming p a z [] → IsSettledSoAssuming p a z pairs
+alone_settled p a z pairs settled = record {
+  variables = λ var value m. without_pairs p a pairs _ value _ (settled.variables var value m);
+  instances = λ inst value m. without_pairs p a pairs _ value _ (settled.instances inst value m);
 }
 
-pub no_pairs : (p : Drawing) (s : Standing) (z : Bits) → ArePairs p s z []
-no_pairs p s z = record {
+pub no_pairs : (p : Drawing) (a : Assumed) (s : Standing) (z : Bits) → ArePairsAssuming p a s z []
+no_pairs p a s z = record {
   outside = All-nil (IsPairOutside p z);
   apart = All-nil (λ pair. are_both_on s.held pair ≡ false);
-  excluded = All-nil (λ pair. IsExcluded p [] pair (knowing p z));
+  excluded = All-nil (λ pair. IsExcludedAssuming p a [] pair (knowing p z));
 }
 
 -- ---- sets and pairs together

@@ -11,7 +11,8 @@ use Rattle.scan_signals.specs.Three.{three, three_known}
 use Rattle.scan_signals.specs.declared.tri.Tri.{Tri}
 use Rattle.scan_signals.specs.declared.tri.Tri.TheVariants.{Unsure}
 use Rattle.invariant_cases.specs.Allowing.{AreApart, are_both_on}
-use Rattle.invariant_cases.specs.Cases.{IsSettledBoth, both_told}
+use Rattle.invariant_cases.specs.Assuming.{Assumed, nothing}
+use Rattle.invariant_cases.specs.Cases.{IsSettledAssuming, both_told}
 use Rattle.invariant_cases.specs.Outcomes.{outcomes}
 use Rattle.invariant_cases.specs.declared.outcome.Outcome.{Outcome}
 use Rattle.invariant_cases.specs.declared.pair.Pair.{Pair}
@@ -28,18 +29,26 @@ pub record IsPairOutside (p : Drawing) (z : Bits) (pair : Pair) : Type 0 where
   pub second : IsOutside p z pair.second
 
 -- Not both of the target are ON.
+abbrev pub IsExcludedAssuming : Drawing → Assumed → List Pair → Pair → Known Tri Outcome → Type 0
+IsExcludedAssuming p a pairs target k = IsSettledAssuming p a pairs target false k
+
+-- where nothing is assumed
 abbrev pub IsExcluded : Drawing → List Pair → Pair → Known Tri Outcome → Type 0
-IsExcluded p pairs target k = IsSettledBoth p pairs target false k
+IsExcluded p pairs target k = IsExcludedAssuming p nothing pairs target k
 
 -- Of each pair not both are ON after a scan from all that is known where the set is so and of no pair both are ON.
-abbrev pub AreExcluded : Drawing → Bits → List Pair → Type 0
-AreExcluded p z pairs = All (λ pair. IsExcluded p pairs pair (knowing p z)) pairs
+abbrev pub AreExcluded : Drawing → Assumed → Bits → List Pair → Type 0
+AreExcluded p a z pairs = All (λ pair. IsExcludedAssuming p a pairs pair (knowing p z)) pairs
 
--- Pairs of what is outside the set, not both ON in a state, and settled to stay so.
-pub record ArePairs (p : Drawing) (s : Standing) (z : Bits) (pairs : List Pair) : Type 0 where
+-- Pairs of what is outside the set, not both ON in a state, and settled to stay so where what is assumed of the inputs is true.
+pub record ArePairsAssuming (p : Drawing) (a : Assumed) (s : Standing) (z : Bits) (pairs : List Pair) : Type 0 where
   pub outside : All (IsPairOutside p z) pairs
   pub apart : AreApart pairs s.held
-  pub excluded : AreExcluded p z pairs
+  pub excluded : AreExcluded p a z pairs
+
+-- where nothing is assumed
+abbrev pub ArePairs : Drawing → Standing → Bits → List Pair → Type 0
+ArePairs p s z pairs = ArePairsAssuming p nothing s z pairs
 
 -- One scan over three values from what is known tells that not both of a pair are ON after it.
 abbrev pub IsToldApart : Drawing → Pair → Known Tri Outcome → Type 0

@@ -6,15 +6,16 @@ use Rattle.scan_signals.specs.Three.{three_known}
 use Rattle.scan_signals.specs.declared.tri.Tri.{Tri}
 use Rattle.scan_signals.specs.declared.tri.Tri.TheVariants.{Off, On, Unsure}
 use Rattle.invariant_sets.specs.Never.{Bits, IsSetOf, IsWithin, Stays, after_knowing, claims}
-use Rattle.invariant_cases.specs.Cases.{IsSettledBoth, of_itself, point_of, told}
+use Rattle.invariant_cases.specs.Assuming.{Assumed}
+use Rattle.invariant_cases.specs.Cases.{IsSettledAssuming, of_itself, point_of, told}
 use Rattle.invariant_cases.specs.Allowing.{AreApart}
 use Rattle.invariant_cases.specs.Outcomes.{outcomes, q_known}
 use Rattle.invariant_cases.specs.declared.outcome.Outcome.{Outcome}
 use Rattle.invariant_cases.specs.declared.pair.Pair.{Pair}
 use Rattle.diagram_declarations.specs.declared.decls.Symbol.{Symbol}
 use Rattle.scan_cycle.specs.Standing.{Standing}
-use Rattle.invariant_sets.specs.Invariants.{IsSettledSo}
-use Rattle.invariant_sets.specs.Pairs.{ArePairs, HasToldApart, IsPairOutside}
+use Rattle.invariant_sets.specs.Invariants.{IsSettledSoAssuming}
+use Rattle.invariant_sets.specs.Pairs.{ArePairsAssuming, HasToldApart, IsPairOutside}
 
 -- What the first set claims, one scan from the second one leaves so.
 pub record AreLeftSo (p : Drawing) (z w : Bits) : Type 0 where
@@ -40,8 +41,8 @@ abbrev pub size : Bits → ℕ
 size z = members z.variables + members z.instances
 
 -- One is settled to have the value after a scan from the case; without scans for cases, that scan over three values tells it.
-pub data IsLeftSo (p : Drawing) (pairs : List Pair) (symbol : Symbol) (after case : Known Tri Outcome) (scans : ℕ) (value : Bool) : Type 0 where
-  left_so : IsSettledBoth p pairs (of_itself symbol) value case → (scans ≡ 0 → told (point_of symbol) after ≡ three_known value) → IsLeftSo p pairs symbol after case scans value
+pub data IsLeftSo (p : Drawing) (a : Assumed) (pairs : List Pair) (symbol : Symbol) (after case : Known Tri Outcome) (scans : ℕ) (value : Bool) : Type 0 where
+  left_so : IsSettledAssuming p a pairs (of_itself symbol) value case → (scans ≡ 0 → told (point_of symbol) after ≡ three_known value) → IsLeftSo p a pairs symbol after case scans value
 
 -- The second list claims some of what the first does: all that is told, and nothing without the property.
 pub record IsLeftBy (telling : ℕ → Tri) (P : ℕ → Bool → Type 0) (bits left : List Tri) (removed : ℕ) : Type 0 where
@@ -76,9 +77,9 @@ pub record MayStayApart (p : Drawing) (s : Standing) (z : Bits) (pairs : List Pa
   pub told : HasToldApart p s z pairs
 
 -- All of the set is settled with the pairs, and the pairs are settled with the set.
-pub record StayTogether (p : Drawing) (s : Standing) (z : Bits) (pairs : List Pair) : Type 0 where
-  pub settled : IsSettledSo p z pairs
-  pub apart : ArePairs p s z pairs
+pub record StayTogether (p : Drawing) (a : Assumed) (s : Standing) (z : Bits) (pairs : List Pair) : Type 0 where
+  pub settled : IsSettledSoAssuming p a z pairs
+  pub apart : ArePairsAssuming p a s z pairs
   pub told : HasToldApart p s z pairs
 
 -- The second list has what the first does, but for some of which the third claims nothing.

@@ -5,7 +5,7 @@ ghost use Rattle.invariant_sets.specs.declared.history.TheConstants.{SCANS};
 
 use diagram_declarations::Symbol;
 use diagram_program::Program;
-use invariant_cases::Pair;
+use invariant_cases::{Assumption, Pair};
 use scan_cycle::{Memory, State, scan};
 use std::alloc::Global;
 
@@ -13,6 +13,9 @@ use std::alloc::Global;
 const RUNS: u64 = 16;
 
 const SCANS: u32 = 64;
+
+/// How often inputs are changed at most until what is assumed of them is true.
+const TRIES: u32 = 16;
 
 /// After which scans of a run each variable was ON, and the output of each instance: a bit for each scan.
 #[derive(Drop)]
@@ -62,6 +65,25 @@ fn change(inputs: &mut [bool], many: u64, chance: &mut Chance)
     }
 }
 
+/// Changes about one input in `many`, again and again until what is assumed of them is true, and returns whether it is: after so many tries it
+/// may not be.
+fn change_allowed(
+    assumption: Assumption<'_>,
+    inputs: &mut [bool],
+    many: u64,
+    chance: &mut Chance,
+) -> bool
+    requires { 0 < many }
+{
+    for _ in 0..TRIES {
+        change(inputs, many, chance);
+        if assumption.allows(inputs) {
+            return true;
+        }
+    }
+    false
+}
+
 /// The time to the next scan: often little, and sometimes long.
 fn pause(chance: &mut Chance) -> u64 {
     let length = chance.next();
@@ -105,10 +127,12 @@ impl Run {
         }
     }
 
-    /// Makes the scans of the run; before each about one input in `many` changes.
+    /// Makes the scans of the run; before each about one input in `many` changes. Where no inputs were found with which what is assumed is true, no
+    /// scan is made.
     fn make(
         &mut self,
         program: &Program,
+        assumption: Assumption<'_>,
         state: &mut State,
         inputs: &mut [bool],
         many: u64,
@@ -117,9 +141,10 @@ impl Run {
         requires { 0 < many }
     {
         for bit in 0..SCANS {
-            change(inputs, many, chance);
-            let moment = state.moment().saturating_add(pause(chance));
-            let _ = scan(program, state, inputs, moment);
+            if change_allowed(assumption, inputs, many, chance) {
+                let moment = state.moment().saturating_add(pause(chance));
+                let _ = scan(program, state, inputs, moment);
+            }
             self.note_variables(state, bit);
             self.note_instances(state, bit);
         }
@@ -136,15 +161,27 @@ impl Run {
 }
 
 impl History {
-    /// Makes runs of scans from the state. From run to run inputs change less often.
-    pub(crate) fn new(alloc: Global, program: &Program, state: &State) -> Result<History, Memory> {
+    /// Makes runs of scans from the state, with inputs with which what is assumed is true. From run to run they change less often.
+    pub(crate) fn new(
+        alloc: Global,
+        program: &Program,
+        state: &State,
+        assumption: Assumption<'_>,
+    ) -> Result<History, Memory> {
         let mut runs = Vec::new(alloc);
         let mut inputs = vec![in alloc; false; program.decls().inputs()]?;
         let mut chance = Chance { state: 1 };
         for number in 0..RUNS {
             let mut copy = state.copy(alloc)?;
             let mut run = Run::none(alloc, program)?;
-            run.make(program, &mut copy, &mut inputs, 2 + number, &mut chance);
+            run.make(
+                program,
+                assumption,
+                &mut copy,
+                &mut inputs,
+                2 + number,
+                &mut chance,
+            );
             runs.push(run)?;
         }
         Ok(History { runs })

@@ -2,7 +2,7 @@
 
 ghost use Rattle.invariant_cases.specs.OutcomeLaws.{knows_kept, outcomes_grow};
 ghost use Rattle.invariant_cases.specs.Outcomes.{KnowsMore, TellsMore, outcomes};
-ghost use Rattle.invariant_sets.specs.Invariants.{KnowingAllows, StaysForEver};
+ghost use Rattle.invariant_sets.specs.Invariants.{AllowsAll, KnowingAllows, StaysAssuming, StaysForEver};
 ghost use Rattle.invariant_sets.specs.Removing.{LeavesSo};
 
 use diagram_program::Program;
@@ -44,17 +44,30 @@ impl StepRelation for Further {
     ghost steps = { λ _ d. outcomes_grow d };
 }
 
-/// What a scan leaves so is so for ever: a set, and pairs of which not both are ON.
+/// What a scan leaves so in which what is assumed of the inputs is true is so for ever in such scans: a set, and pairs of which not both are ON.
 ///
 /// Scans over three values settle it, by cases, from what is known where the set is so and of no pair both are ON: all other variables and Qs,
-/// all inputs and all memories are open. From a state of the program in which it is so, it is so after any scans, with any inputs and at any
-/// moments.
-pub fn stays_so(program: &Program)
-    ensures { StaysForEver program.now }
+/// all inputs and all memories are open. From a state of the program in which it is so, it is so after any such scans, at any moments.
+pub fn stays_assuming(program: &Program)
+    ensures { StaysAssuming program.now }
 {
     checked(program);
     scan_keeps::<Allowing>();
     known_is_scan(program);
+}
+
+/// The same where nothing is assumed: with any inputs.
+pub fn stays_so(program: &Program)
+    ensures { StaysForEver program.now }
+{
+    stays_assuming(program);
+}
+
+/// Where nothing is assumed any scans are allowed.
+pub(crate) fn nothing_assumed(program: &Program)
+    ensures { AllowsAll program.now }
+{
+    let _program = program;
 }
 
 /// All that is known where a set is so allows each state of the program in which it is, at any moment.

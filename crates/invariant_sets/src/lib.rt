@@ -3,6 +3,7 @@
 //! The modules `knowing` and `laws` are public for `causes_any_state`, which begins its searches with what stays so.
 #![tactic(auto)]
 
+mod basis;
 mod first_claims;
 mod first_pairs;
 mod history;
@@ -16,7 +17,7 @@ mod set;
 mod staying;
 mod together;
 
-pub use never::never_changing;
+pub use never::{never_assuming, never_changing};
 pub use pairs::Pairs;
 pub use set::Set;
-pub use staying::{PAIR_SCANS, SCANS, Staying, staying_from};
+pub use staying::{PAIR_SCANS, SCANS, Staying, staying_assuming, staying_from};

@@ -3,16 +3,18 @@
 ghost use Rattle.std.specs.Prelude.{◌≡◌, [], IfOk, List};
 ghost use Rattle.scan_cycle.specs.Programs.{diagram_of};
 ghost use Rattle.scan_cycle.specs.Standing.{Fits};
-ghost use Rattle.invariant_sets.specs.Invariants.{IsSteady};
+ghost use Rattle.invariant_cases.specs.Assuming.{assumed_of};
+ghost use Rattle.invariant_sets.specs.Invariants.{AreAllowed, IsSteady, IsSteadyAssuming};
 ghost use Rattle.scan_cycle.specs.Runs.{OneScan, after_each};
 ghost use Rattle.invariant_sets.specs.Never.{IsSo, Stays};
 
+use crate::basis::Basis;
 use crate::first_claims::begin;
 use crate::laws;
 use crate::removing_claims::settle;
 use crate::set::Set;
 use diagram_program::Program;
-use invariant_cases::{CaseBuffers, Writers};
+use invariant_cases::{Assumption, CaseBuffers, Writers};
 use scan_cycle::{Memory, State};
 use scan_partial::Knowledge;
 use std::alloc::Global;
@@ -37,12 +39,41 @@ pub fn never_changing(
     ensures plain { scans ≡ 0 → IfOk result (λ z. Stays program.now z) }
     ensures so { IfOk result (λ z. (scans : List OneScan) → IsSo z (after_each (diagram_of program.now) scans state.now.held)) }
 {
-    laws::stays_so(program);
+    laws::nothing_assumed(program);
+    never_assuming(alloc, program, state, Assumption::nothing(), scans)
+}
+
+/// Variables and Qs that never change from the state on in scans in which what is assumed of the inputs is true, as [`never_changing`] finds them
+/// where nothing is.
+///
+/// # Errors
+///
+/// `Memory` when out of memory.
+pub fn never_assuming(
+    alloc: Global,
+    program: &Program,
+    state: &State,
+    assumption: Assumption<'_>,
+    scans: u32,
+) -> Result<Set, Memory>
+    requires { Fits program.now state.now }
+    ensures is { IfOk result (λ z. IsSteadyAssuming program.now (assumed_of assumption.entry) state.now z []) }
+    ensures plain { scans ≡ 0 → IfOk result (λ z. Stays program.now z) }
+    ensures so { IfOk result (λ z. (scans : List OneScan) → AreAllowed program.now (assumed_of assumption.entry) scans state.now.held
+        → IsSo z (after_each (diagram_of program.now) scans state.now.held)) }
+{
+    laws::stays_assuming(program);
     state.checked();
     let mut set = begin(alloc, program, state)?;
     let mut after = Knowledge::new(alloc, program)?;
     let writers = Writers::new(alloc, program)?;
     let mut buffers = CaseBuffers::new(alloc, program)?;
-    settle(program, &writers, &mut set, &mut after, &mut buffers, scans);
+    let basis = Basis {
+        program,
+        writers: &writers,
+        assumption,
+        scans,
+    };
+    settle(basis, &mut set, &mut after, &mut buffers);
     Ok(set)
 }

@@ -4,7 +4,8 @@ ghost use Rattle.std.specs.Prelude.{IfOk, List, []};
 ghost use Rattle.scan_cycle.specs.Programs.{diagram_of};
 ghost use Rattle.scan_cycle.specs.Standing.{Fits};
 ghost use Rattle.invariant_cases.specs.Allowing.{AreApart};
-ghost use Rattle.invariant_sets.specs.Invariants.{IsStaying, IsSteady};
+ghost use Rattle.invariant_cases.specs.Assuming.{assumed_of};
+ghost use Rattle.invariant_sets.specs.Invariants.{AreAllowed, IsStaying, IsStayingAssuming, IsSteadyAssuming};
 ghost use Rattle.scan_cycle.specs.Runs.{OneScan, after_each};
 ghost use Rattle.invariant_sets.specs.Never.{IsSo};
 ghost use Rattle.invariant_sets.specs.Pairs.{HasToldApart};
@@ -12,12 +13,12 @@ ghost use Rattle.invariant_sets.specs.Pairs.{HasToldApart};
 use crate::first_claims::begin_with;
 use crate::history::History;
 use crate::laws;
-use crate::never::never_changing;
+use crate::never::never_assuming;
 use crate::pairs::Pairs;
 use crate::set::Set;
 use crate::together::{Start, apart_from, settle};
 use diagram_program::Program;
-use invariant_cases::{CaseBuffers, Writers};
+use invariant_cases::{Assumption, CaseBuffers, Writers};
 use scan_cycle::{Memory, State};
 use scan_partial::Knowledge;
 use std::alloc::Global;
@@ -40,8 +41,8 @@ pub struct Staying {
 /// What stays so from the start on: at least what stays so alone.
 fn staying_of(alloc: Global, start: Start<'_>, alone: Set) -> Result<Staying, Memory>
     requires fits { Fits start.program.now start.state.now }
-    requires alone { IsSteady start.program.now start.state.now alone [] }
-    ensures stays { IfOk result (λ staying. IsStaying start.entry.program.now start.entry.state.now staying) }
+    requires alone { IsSteadyAssuming start.program.now (assumed_of start.assumption) start.state.now alone [] }
+    ensures stays { IfOk result (λ staying. IsStayingAssuming start.entry.program.now (assumed_of start.entry.assumption) start.entry.state.now staying) }
     ensures told { IfOk result (λ staying. HasToldApart start.entry.program.now start.entry.state.now staying.steady staying.apart) }
 {
     let program = start.program;
@@ -86,16 +87,47 @@ pub fn staying_from(
     ensures so { IfOk result (λ staying. (scans : List OneScan)
         → IsSo staying.steady (after_each (diagram_of program.now) scans state.now.held) × AreApart staying.apart (after_each (diagram_of program.now) scans state.now.held)) }
 {
-    laws::stays_so(program);
+    laws::nothing_assumed(program);
+    staying_assuming(
+        alloc,
+        program,
+        state,
+        Assumption::nothing(),
+        scans,
+        pair_scans,
+    )
+}
+
+/// What stays so from a state on in scans in which what is assumed of the inputs is true, as [`staying_from`] finds it where nothing is.
+///
+/// # Errors
+///
+/// `Memory` when out of memory.
+pub fn staying_assuming(
+    alloc: Global,
+    program: &Program,
+    state: &State,
+    assumption: Assumption<'_>,
+    scans: u32,
+    pair_scans: u32,
+) -> Result<Staying, Memory>
+    requires { Fits program.now state.now }
+    ensures stays { IfOk result (λ staying. IsStayingAssuming program.now (assumed_of assumption.entry) state.now staying) }
+    ensures told { IfOk result (λ staying. HasToldApart program.now state.now staying.steady staying.apart) }
+    ensures so { IfOk result (λ staying. (scans : List OneScan) → AreAllowed program.now (assumed_of assumption.entry) scans state.now.held
+        → IsSo staying.steady (after_each (diagram_of program.now) scans state.now.held) × AreApart staying.apart (after_each (diagram_of program.now) scans state.now.held)) }
+{
+    laws::stays_assuming(program);
     state.checked();
-    let alone = never_changing(alloc, program, state, scans)?;
-    let history = History::new(alloc, program, state)?;
+    let alone = never_assuming(alloc, program, state, assumption, scans)?;
+    let history = History::new(alloc, program, state, assumption)?;
     let writers = Writers::new(alloc, program)?;
     let start = Start {
         program,
         state,
         history: &history,
         writers: &writers,
+        assumption,
         scans,
         pair_scans,
     };

@@ -3,10 +3,12 @@
 ghost use Rattle.std.specs.Prelude.{◌≡◌, ◌<◌, IfOk, IfSome, None};
 ghost use Rattle.invariant_cases.specs.Buffers.{AreCaseBuffers};
 ghost use Rattle.invariant_sets.specs.Never.{IsSetOf, knowing};
-ghost use Rattle.invariant_sets.specs.Pairs.{ArePairs, HasToldApart};
+ghost use Rattle.invariant_cases.specs.Assuming.{assumed_of};
+ghost use Rattle.invariant_sets.specs.Pairs.{ArePairsAssuming, HasToldApart};
 ghost use Rattle.invariant_sets.specs.Removing.{IsLeftOf, MayStayApart, StayTogether, size};
 ghost use Rattle.scan_partial.specs.Sizes.{HasSizes};
 
+use crate::basis::Basis;
 use crate::first_pairs::begin;
 use crate::history::History;
 use crate::knowing::know;
@@ -14,7 +16,7 @@ use crate::removing_claims::remove;
 use crate::removing_pairs::settle as settle_pairs;
 use crate::set::Set;
 use diagram_program::Program;
-use invariant_cases::{CaseBuffers, Outcome, Pair, Writers};
+use invariant_cases::{Assumption, CaseBuffers, Outcome, Pair, Writers};
 use scan_cycle::{Memory, State};
 use scan_partial::{Knowledge, scan_known};
 use scan_signals::Tri;
@@ -29,6 +31,8 @@ pub(crate) struct Start<'a> {
     pub history: &'a History,
     /// Where the program writes what.
     pub writers: &'a Writers,
+    /// What is assumed of the inputs.
+    pub assumption: Assumption<'a>,
     /// How many scans may settle one claim.
     pub scans: u32,
     /// How many scans may settle one pair.
@@ -69,17 +73,17 @@ pub(crate) fn apart_from(
     requires set { IsSetOf start.program.now set.now }
     requires after { HasSizes start.program.now after.old }
     requires buffers { AreCaseBuffers start.program.now buffers.old }
-    ensures are { IfOk result (λ pairs. ArePairs start.entry.program.now start.entry.state.now set.now pairs.items) }
+    ensures are { IfOk result (λ pairs. ArePairsAssuming start.entry.program.now (assumed_of start.entry.assumption) start.entry.state.now set.now pairs.items) }
     ensures told { IfOk result (λ pairs. HasToldApart start.entry.program.now start.entry.state.now set.now pairs.items) }
 {
     let mut pairs = first_pairs(alloc, start, set, after, buffers)?;
-    settle_pairs(
-        start.program,
-        start.writers,
-        &mut pairs,
-        buffers,
-        start.pair_scans.max(1),
-    );
+    let basis = Basis {
+        program: start.program,
+        writers: start.writers,
+        assumption: start.assumption,
+        scans: start.pair_scans.max(1),
+    };
+    settle_pairs(basis, &mut pairs, buffers);
     Ok(pairs)
 }
 
@@ -96,24 +100,29 @@ fn round(
     requires buffers { AreCaseBuffers start.program.now buffers.old }
     ensures left { IfOk result (λ _. IsLeftOf start.entry.program.now set.old set.new) }
     ensures fewer { IfOk result (λ pairs. pairs ≡ None → size set.new < size set.old) }
-    ensures together { IfOk result (λ pairs. IfSome pairs (λ ps. StayTogether start.entry.program.now start.entry.state.now set.new ps.items)) }
+    ensures together { IfOk result (λ pairs. IfSome pairs (λ ps. StayTogether start.entry.program.now (assumed_of start.entry.assumption) start.entry.state.now set.new ps.items)) }
     ensures after { IfOk result (λ _. HasSizes start.entry.program.now after.new) }
     ensures buffers { IfOk result (λ _. AreCaseBuffers start.entry.program.now buffers.new) }
 {
-    let (program, writers, scans) = (start.program, start.writers, start.scans);
+    let of_claims = Basis {
+        program: start.program,
+        writers: start.writers,
+        assumption: start.assumption,
+        scans: start.scans,
+    };
+    let of_pairs = Basis {
+        program: start.program,
+        writers: start.writers,
+        assumption: start.assumption,
+        scans: start.pair_scans.max(1),
+    };
     let mut pairs = first_pairs(alloc, start, set, after, buffers)?;
     // What isn't kept up by pairs that may yet go isn't by those that are left: to see that needs no search for these.
-    if 0 < remove(program, writers, &pairs, set, after, buffers, scans) {
+    if 0 < remove(of_claims, &pairs, set, after, buffers) {
         return Ok(None);
     }
-    settle_pairs(
-        program,
-        writers,
-        &mut pairs,
-        buffers,
-        start.pair_scans.max(1),
-    );
-    if 0 < remove(program, writers, &pairs, set, after, buffers, scans) {
+    settle_pairs(of_pairs, &mut pairs, buffers);
+    if 0 < remove(of_claims, &pairs, set, after, buffers) {
         return Ok(None);
     }
     Ok(Some(pairs))
@@ -131,7 +140,7 @@ pub(crate) fn settle(
     requires after { HasSizes start.program.now after.old }
     requires buffers { AreCaseBuffers start.program.now buffers.old }
     ensures left { IfOk result (λ _. IsLeftOf start.entry.program.now set.old set.new) }
-    ensures together { IfOk result (λ pairs. StayTogether start.entry.program.now start.entry.state.now set.new pairs.items) }
+    ensures together { IfOk result (λ pairs. StayTogether start.entry.program.now (assumed_of start.entry.assumption) start.entry.state.now set.new pairs.items) }
     ensures after { IfOk result (λ _. HasSizes start.entry.program.now after.new) }
     ensures buffers { IfOk result (λ _. AreCaseBuffers start.entry.program.now buffers.new) }
 {

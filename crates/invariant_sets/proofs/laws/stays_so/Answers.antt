@@ -1,8 +1,5 @@
-use Rattle.scan_cycle.specs.Programs.{diagram_of}
 use Rattle.invariant_sets.proofs.ForEver.{stays_for_ever}
 use Rattle.invariant_sets.proofs.laws.stays_so.Goals as goal
 
 pub returns : goal.returns
-returns c =
-    let d = diagram_of c.args.program.now in
-    stays_for_ever c.args.program.now c.checked.ensures (λ now. c.scan_keeps.ensures (record { now = now }) d) c.known_is_scan.ensures
+returns c = stays_for_ever c.args.program.now c.stays_assuming.ensures

@@ -7,13 +7,14 @@ use Rattle.invariant_sets.specs.Removing.{IsLeftSo}
 use Rattle.invariant_sets.proofs.Left.{claim_goes, claim_stays, same_left}
 use Rattle.invariant_sets.proofs.Settled.{kept_on}
 use Rattle.invariant_sets.proofs.removing_claims.leave_variables.Goals.{then-not-keeps, else-not-keeps}
+use Rattle.invariant_cases.specs.Assuming.{assumed_of}
 use Rattle.invariant_sets.proofs.removing_claims.leave_variables.Goals as goal
 
 pub loop-var-preserved : goal.loop-var-preserved
 loop-var-preserved c =
     let r = c.args.round in
     let inv = c.loop-var.invariant in
-    let buffers = kept_on r.program.now _ _ _ inv.buffers c.keeps.ensures.buffers in
+    let buffers = kept_on r.basis.program.now _ _ _ inv.buffers c.keeps.ensures.buffers in
     elim c.if-not-keeps.branch [
       | then-not-keeps w ↦ record {
         left = same_left _ _ c.args.variables.now _ _ _ _ _ w.variables-is w.removed-is
@@ -26,7 +27,7 @@ loop-var-preserved c =
         left = same_left _ _ c.args.variables.now _ _ _ _ _ w.variables-is w.removed-is
             (claim_stays _ _ c.args.variables.now c.loop-var.variables _ c.loop-var.var inv.left (omega (arith, c.loop-var-test.true, c.loop-var.auto.variables)) c.keeps.result
             w.if-not-keeps.false _
-            (λ kept value m. subst (λ (k : Known Tri Outcome). IsLeftSo r.program.now r.pairs.now (Var c.loop-var.var) r.after.now k r.scans value) inv.buffers.case (c.keeps.ensures.stays kept value m)));
+            (λ kept value m. subst (λ (k : Known Tri Outcome). IsLeftSo r.basis.program.now (assumed_of r.basis.assumption) r.pairs.now (Var c.loop-var.var) r.after.now k r.basis.scans value) inv.buffers.case (c.keeps.ensures.stays kept value m)));
         few = search rules;
         buffers = buffers;
       }

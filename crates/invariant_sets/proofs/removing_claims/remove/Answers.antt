@@ -6,13 +6,14 @@ use Rattle.scan_signals.specs.Three.{three}
 use Rattle.invariant_sets.specs.Never.{Bits, Stays}
 use Rattle.invariant_cases.specs.Outcomes.{outcomes}
 use Rattle.diagram_declarations.specs.declared.decls.Symbol.TheVariants as symbol
-use Rattle.invariant_cases.specs.Cases.{IsSettledBoth, of_itself}
-use Rattle.invariant_sets.specs.Invariants.{IsSettledSo}
+use Rattle.invariant_cases.specs.Cases.{IsSettledAssuming, of_itself}
+use Rattle.invariant_sets.specs.Invariants.{IsSettledSoAssuming}
 use Rattle.invariant_cases.specs.declared.outcome.Outcome.{Outcome}
 use Rattle.scan_signals.specs.declared.tri.Tri.{Tri}
 use Rattle.invariant_sets.proofs.Claims.{none_left}
 use Rattle.invariant_sets.proofs.Left.{moved}
 use Rattle.invariant_sets.proofs.Settled.{known_of_output, known_of_variable, left_plain, left_settled, same_bits, told_of_output, told_of_variable}
+use Rattle.invariant_cases.specs.Assuming.{assumed_of}
 use Rattle.invariant_sets.proofs.removing_claims.remove.Goals as goal
 
 pub returns-clause-set : goal.returns-clause-set
@@ -45,7 +46,7 @@ pub returns-clause-most : goal.returns-clause-most
 returns-clause-most c = λ other set stays within.
     let before = c.set.inside in
     let left = c.leaves_so.ensures other c.args.set.now set c.requires.set within stays in
-    let after = c.scan_known.ensures.known ∙ ap (after_known three outcomes (diagram_of c.args.program.now) 0 []) (c.copy_from.ensures ∙ c.know.ensures.known) in
+    let after = c.scan_known.ensures.known ∙ ap (after_known three outcomes (diagram_of c.args.basis.program.now) 0 []) (c.copy_from.ensures ∙ c.know.ensures.known) in
     record {
       variables = λ var value m.
           moved _ _ var value (sym (with_items_is before.variables c.leave_variables-variables.new.variables (c.leave_variables-variables.auto.variables ∙ c.deref_mut.ensures.len)))
@@ -62,10 +63,10 @@ returns-clause-most c = λ other set stays within.
 pub returns-clause-plain : goal.returns-clause-plain
 returns-clause-plain c = λ none nothing.
     let before = c.set.inside in
-    let after = c.scan_known.ensures.known ∙ ap (after_known three outcomes (diagram_of c.args.program.now) 0 []) (c.copy_from.ensures ∙ c.know.ensures.known) in
+    let after = c.scan_known.ensures.known ∙ ap (after_known three outcomes (diagram_of c.args.basis.program.now) 0 []) (c.copy_from.ensures ∙ c.know.ensures.known) in
     let variables = c.leave_variables-variables.ensures.left.same (omega (arith, nothing)) ∙ c.deref_mut.ensures.value ∙ ap (λ (z : Bits). z.variables) c.set.view_is in
     let instances = c.leave_instances-instances.ensures.left.same (omega (arith, nothing)) ∙ c.deref_mut-2.ensures.value ∙ ap (λ (z : Bits). z.instances) c.set.view_is in
-    subst (Stays c.args.program.now) (sym (same_bits _ _ _ _
+    subst (Stays c.args.basis.program.now) (sym (same_bits _ _ _ _
     (with_items_is before.variables c.leave_variables-variables.new.variables (c.leave_variables-variables.auto.variables ∙ c.deref_mut.ensures.len) ∙ variables)
     (with_items_is before.instances c.leave_instances-instances.new.instances (c.leave_instances-instances.auto.instances ∙ c.deref_mut-2.ensures.len) ∙ instances)))
     (record {
@@ -79,15 +80,15 @@ returns-clause-settled c = λ nothing.
     let before = c.set.inside in
     let variables = c.leave_variables-variables.ensures.left.same (omega (arith, nothing)) ∙ c.deref_mut.ensures.value ∙ ap (λ (z : Bits). z.variables) c.set.view_is in
     let instances = c.leave_instances-instances.ensures.left.same (omega (arith, nothing)) ∙ c.deref_mut-2.ensures.value ∙ ap (λ (z : Bits). z.instances) c.set.view_is in
-    subst (λ (z : Bits). IsSettledSo c.args.program.now z c.args.pairs.now) (sym (same_bits _ _ _ _
+    subst (λ (z : Bits). IsSettledSoAssuming c.args.basis.program.now (assumed_of c.args.basis.assumption) z c.args.pairs.now) (sym (same_bits _ _ _ _
     (with_items_is before.variables c.leave_variables-variables.new.variables (c.leave_variables-variables.auto.variables ∙ c.deref_mut.ensures.len) ∙ variables)
     (with_items_is before.instances c.leave_instances-instances.new.instances (c.leave_instances-instances.auto.instances ∙ c.deref_mut-2.ensures.len) ∙ instances)))
     (record {
       variables = λ var value m.
-          subst (λ (k : Known Tri Outcome). IsSettledBoth c.args.program.now c.args.pairs.now (of_itself (symbol.Var var)) value k) c.know.ensures.known
+          subst (λ (k : Known Tri Outcome). IsSettledAssuming c.args.basis.program.now (assumed_of c.args.basis.assumption) c.args.pairs.now (of_itself (symbol.Var var)) value k) c.know.ensures.known
           (left_settled (c.leave_variables-variables.ensures.left.holds var value (moved _ _ var value (sym variables) m)));
       instances = λ inst value m.
-          subst (λ (k : Known Tri Outcome). IsSettledBoth c.args.program.now c.args.pairs.now (of_itself (symbol.Instance inst)) value k) (c.leave_variables-variables.ensures.buffers.case ∙ c.know.ensures.known)
+          subst (λ (k : Known Tri Outcome). IsSettledAssuming c.args.basis.program.now (assumed_of c.args.basis.assumption) c.args.pairs.now (of_itself (symbol.Instance inst)) value k) (c.leave_variables-variables.ensures.buffers.case ∙ c.know.ensures.known)
           (left_settled (c.leave_instances-instances.ensures.left.holds inst value (moved _ _ inst value (sym instances) m)));
     })
 

@@ -21,6 +21,6 @@ pub returns-clause-stays : goal.returns-clause-stays
 returns-clause-stays c =
     let alone = c.requires.alone in
     record {
-      steady = record { set = alone.set; so = alone.so; settled = alone_settled _ _ _ alone.settled; most = alone.most };
+      steady = record { set = alone.set; so = alone.so; settled = alone_settled _ _ _ _ alone.settled; most = alone.most };
       apart = c.in_ok-pairs-2.ensures.are;
     }

@@ -1,8 +1,0 @@
-use Rattle.std.proofs.lemmas.Result.{IfOk-weaker}
-use Rattle.invariant_sets.proofs.staying.staying_from.Goals as goal
-
-pub returns-clause-so : goal.returns-clause-so
-returns-clause-so c =
-    IfOk-weaker c.staying_of.result _ _
-    (λ staying is scans. c.stays_so.ensures c.args.state.now c.requires c.checked.ensures staying.steady is.steady.set is.steady.so staying.apart is.apart is.steady.settled scans)
-    c.staying_of.ensures.stays
