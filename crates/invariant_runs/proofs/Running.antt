@@ -9,11 +9,11 @@ use Rattle.scan_cycle.specs.Standing.{Fits, IsStanding, Standing}
 use Rattle.scan_cycle.proofs.ByList.{scanned_is}
 use Rattle.scan_cycle.proofs.Possible.{after_sound, scanned_possible, scanned_shapes}
 use Rattle.scan_cycle.proofs.Sizes.{scan_lengths}
-use Rattle.invariant_sets.specs.Invariants.{StaysForEver}
+use Rattle.invariant_sets.specs.Invariants.{StaysAssuming, StaysForEver}
 use Rattle.scan_cycle.specs.Runs.{IsRun, OneScan, after_each}
 use Rattle.invariant_sets.specs.Never.{IsSo}
 use Rattle.invariant_cases.specs.Allowing.{AreApart}
-use Rattle.invariant_runs.specs.Reached.{RunsStay, reached}
+use Rattle.invariant_runs.specs.Reached.{RunsStay, RunsStayAssuming, reached}
 
 -- the state that one scan leaves
 abbrev pub next : Drawing → OneScan → Standing → Standing
@@ -58,6 +58,19 @@ module _ (p : Drawing) (sound : IsSound (diagram_of p)) where
   stands_after : (scans : List OneScan) (s : Standing) → IsStanding s → IsRun s.moment scans → IsStanding (reached p scans s)
   stands_after [] s standing run = standing
   stands_after (scan ∷ more) s standing run = stands_after more (next p scan s) (next_stands scan s standing run.0 run.1) run.2
+
+pub runs_stay_assuming : (p : Drawing) → IsSound (diagram_of p) → StaysAssuming p → RunsStayAssuming p
+runs_stay_assuming p sound law a s fits standing staying is scans run allowed =
+    let held = held_is p scans s in
+    let still = law a s fits standing staying.steady is.steady.set is.steady.so staying.apart is.apart is.steady.settled scans allowed in
+    record {
+      fits = fits_after p sound scans s fits;
+      standing = stands_after p sound scans s standing run;
+      stays = record {
+        so = subst (λ (h : Held). IsSo staying.steady h) (sym held) still.0;
+        apart = subst (λ (h : Held). AreApart staying.apart h) (sym held) still.1;
+      };
+    }
 
 pub runs_stay : (p : Drawing) → IsSound (diagram_of p) → StaysForEver p → RunsStay p
 runs_stay p sound law s fits standing staying is scans run =

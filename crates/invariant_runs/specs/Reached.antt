@@ -5,7 +5,8 @@ use Rattle.scan_cycle.specs.Programs.{diagram_of}
 use Rattle.scan_cycle.specs.Runs.{IsRun, OneScan}
 use Rattle.scan_cycle.specs.Scan.{after_scan}
 use Rattle.scan_cycle.specs.Standing.{Standing, Fits, IsStanding}
-use Rattle.invariant_sets.specs.Invariants.{IsStaying}
+use Rattle.invariant_cases.specs.Assuming.{Assumed}
+use Rattle.invariant_sets.specs.Invariants.{AreAllowed, IsStaying, IsStayingAssuming}
 use Rattle.invariant_runs.specs.Staying.{StaysSo}
 use Rattle.invariant_sets.specs.declared.staying.Staying.{Staying}
 
@@ -26,3 +27,11 @@ AreReached p s staying = (scans : List OneScan) → IsRun s.moment scans → IsR
 -- What stays so from this state on is so in each state that a run reaches.
 abbrev pub RunsStay : Drawing → Type 0
 RunsStay p = (s : Standing) → Fits p s → IsStanding s → (staying : Staying) → IsStaying p s staying → AreReached p s staying
+
+-- ---- in runs in which what is assumed of the inputs is true
+
+abbrev pub AreReachedAssuming : Drawing → Assumed → Standing → Staying → Type 0
+AreReachedAssuming p a s staying = (scans : List OneScan) → IsRun s.moment scans → AreAllowed p a scans s.held → IsReached p staying (reached p scans s)
+
+abbrev pub RunsStayAssuming : Drawing → Type 0
+RunsStayAssuming p = (a : Assumed) (s : Standing) → Fits p s → IsStanding s → (staying : Staying) → IsStayingAssuming p a s staying → AreReachedAssuming p a s staying

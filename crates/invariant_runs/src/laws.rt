@@ -1,9 +1,9 @@
 //! Laws over the definitions: each function does nothing, and its contract is the law.
 
-ghost use Rattle.invariant_runs.specs.Reached.{RunsStay};
+ghost use Rattle.invariant_runs.specs.Reached.{RunsStay, RunsStayAssuming};
 
 use diagram_program::Program;
-use invariant_sets::laws::stays_so;
+use invariant_sets::laws::{stays_assuming, stays_so};
 use scan_cycle::scene::checked;
 
 /// What is settled to stay so is so in each state that a run reaches.
@@ -15,4 +15,12 @@ pub fn reached(program: &Program)
 {
     checked(program);
     stays_so(program);
+}
+
+/// The same of scans in which what is assumed of the inputs is true.
+pub fn reached_assuming(program: &Program)
+    ensures { RunsStayAssuming program.now }
+{
+    checked(program);
+    stays_assuming(program);
 }

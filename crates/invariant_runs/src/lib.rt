@@ -6,4 +6,4 @@ mod so;
 mod staying;
 
 pub use so::stays_so;
-pub use staying::staying_in_runs;
+pub use staying::{staying_in_runs, staying_in_runs_assuming};

@@ -1,3 +1,4 @@
+mod Allowed
 mod Begun
 pub mod Claims
 pub mod ForEver

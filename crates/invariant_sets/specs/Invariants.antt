@@ -1,5 +1,6 @@
 -- What stays so from a state on: a set of claims, and pairs of which not both are ON. Each may keep up the other.
-use Rattle.std.specs.Prelude.{◌≡◌, ℕ, Bool, List, [], ◌∷◌}
+use Rattle.std.specs.Prelude.{◌≡◌, ℕ, Bool, true, false, List, [], ◌∷◌, All, filter, length, slice_index_or}
+use Rattle.std.specs.List.{range_with_len}
 use Rattle.diagram_declarations.specs.declared.decls.Symbol.TheVariants as symbol
 use Rattle.diagram_program.specs.Program.{Drawing}
 use Rattle.scan_cycle.specs.Programs.{diagram_of}
@@ -8,6 +9,7 @@ use Rattle.scan_cycle.specs.Scan.{after_scan, given}
 use Rattle.scan_cycle.specs.Standing.{Standing, Fits, IsStanding}
 use Rattle.scan_signals.specs.Three.{three_known}
 use Rattle.invariant_cases.specs.Allowing.{AllowsState, AreApart}
+use Rattle.assume_truth.specs.Truth.{is_allowed}
 use Rattle.invariant_cases.specs.Assuming.{Assumed, IsTrueIn, nothing}
 use Rattle.invariant_cases.specs.Cases.{IsSettledAssuming, of_itself}
 use Rattle.invariant_cases.specs.declared.pair.Pair.{Pair}
@@ -52,6 +54,21 @@ abbrev pub AreAllowed : Drawing → Assumed → List OneScan → Held → Type 0
 AreAllowed p a [] h = Unit {0}
 AreAllowed p a (scan ∷ more) h = IsTrueIn a (record { values = given (diagram_of p).inputs scan.inputs h.values; kept = h.kept })
     × AreAllowed p a more (after_scan (diagram_of p) scan.moment scan.inputs h)
+
+-- A scan gives each input a value, and with these what is assumed is true.
+abbrev pub IsGivenAllowed : Assumed → OneScan → Type 0
+IsGivenAllowed a scan = (length scan.inputs ≡ length a.inputs) × (is_allowed a.expression scan.inputs ≡ true)
+
+-- the numbers of the variables that are inputs, in order of declaration
+abbrev pub input_numbers : Drawing → List ℕ
+input_numbers p =
+    let inputs = (diagram_of p).inputs in
+    filter (λ var. slice_index_or inputs var false) (range_with_len 0 (length inputs))
+
+-- Such scans are allowed, from any state of the program.
+abbrev pub AllowsGiven : Drawing → Type 0
+AllowsGiven p = (a : Assumed) → a.inputs ≡ input_numbers p → (s : Standing) → Fits p s
+    → (scans : List OneScan) → All (IsGivenAllowed a) scans → AreAllowed p a scans s.held
 
 -- Where nothing is assumed any scans are.
 abbrev pub AllowsAll : Drawing → Type 0

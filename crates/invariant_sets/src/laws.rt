@@ -2,7 +2,7 @@
 
 ghost use Rattle.invariant_cases.specs.OutcomeLaws.{knows_kept, outcomes_grow};
 ghost use Rattle.invariant_cases.specs.Outcomes.{KnowsMore, TellsMore, outcomes};
-ghost use Rattle.invariant_sets.specs.Invariants.{AllowsAll, KnowingAllows, StaysAssuming, StaysForEver};
+ghost use Rattle.invariant_sets.specs.Invariants.{AllowsAll, AllowsGiven, KnowingAllows, StaysAssuming, StaysForEver};
 ghost use Rattle.invariant_sets.specs.Removing.{LeavesSo};
 
 use diagram_program::Program;
@@ -61,6 +61,13 @@ pub fn stays_so(program: &Program)
     ensures { StaysForEver program.now }
 {
     stays_assuming(program);
+}
+
+/// Scans that give each input a value, so that what is assumed is true, are allowed.
+pub fn allowed_where_given(program: &Program)
+    ensures { AllowsGiven program.now }
+{
+    checked(program);
 }
 
 /// Where nothing is assumed any scans are allowed.
