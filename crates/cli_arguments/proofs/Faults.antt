@@ -333,13 +333,9 @@ no_value id rows none = go (find (λ r. bytes_eq r.id id) rows) none
     go None e = refl
     go (Some r) e = ap (λ (vs : List Text). slice_get vs 0) e
 
--- a vector without its elements
-abbrev emptied : {X Z : Type 0} → Vec X Z → Vec X Z
-emptied v = record { ptr = v.ptr; len = 0; cap = v.cap; alloc = v.alloc; items = []; ok = (refl, omega arith); small = v.small }
-
 -- what some state switches on
 pub no_possible_of_bound : (rows : List Row) → HasFlag (codes "any") rows → (IsOfAnyState rows → ⊥) → AsksNone (codes "causes") rows
-no_possible_of_bound rows any none = only_possible rows any (λ r h. none (h.5, (h.9, h.10, h.11, (h.12, (h.21, h.22))), h.18, h.23))
+no_possible_of_bound rows any none = only_possible rows any (λ r h. none (h.5, (h.9, h.10, h.11, (h.12, (h.21, h.22))), h.18))
 
 pub no_possible_of_grouping : (rows : List Row) → HasFlag (codes "any") rows → (HasForm Table rows → HasOrder Given rows → ⊥) → AsksNone (codes "causes") rows
 no_possible_of_grouping rows any none = only_possible rows any (λ r h. none h.7 h.8)
@@ -377,8 +373,8 @@ no_possible_of_list rows any none =
     only_possible rows any
     (λ r h.
     none
-    (record { state = start_of r.runs; moment = None; limit = r.limit; quiet = r.quiet; file = r.file; coil = r.coil; all_inputs = r.all_inputs; inputs = r.inputs; assumed = emptied r.inputs })
-    (start_named rows r.runs h.4, h.5, h.13, h.14, h.15, h.16, h.17, no_values (codes "assume") rows h.23.0))
+    (record { state = start_of r.runs; moment = None; limit = r.limit; quiet = r.quiet; file = r.file; coil = r.coil; all_inputs = r.all_inputs; inputs = r.inputs; assumed = r.assumed })
+    (start_named rows r.runs h.4, h.5, h.13, h.14, h.15, h.16, h.17, h.23))
 
 -- the inputs that matter
 only_relevant : (rows : List Row) → HasFlag (codes "relevant") rows

@@ -103,9 +103,17 @@ IsOfOneState rows = (HasFlag (codes "any") rows → ⊥) × (HasFlag (codes "off
     × (HasFlag (codes "runs") rows → ⊥)
     × HasNumber (codes "states") rows None
 
--- Each state counts, some one is to leave the coil ON, and each cause has a row of its own.
+-- what is assumed: all values of the option in their order, and none where it isn't given
+abbrev pub HasAssumed : List Row → List Text → Type 0
+HasAssumed rows texts = unwrap_or (all_of (codes "assume") rows) [] ≡ texts
+
+-- Nothing is assumed of inputs, by the request or by its text.
+abbrev pub AssumesNothing : List Row → Type 0
+AssumesNothing rows = HasOption (codes "assume") rows None × (HasFlag (codes "assumed") rows → ⊥)
+
+-- Each state counts, some one is to leave the coil ON, each cause has a row of its own, and nothing is assumed of inputs.
 abbrev pub IsPlain : List Row → Type 0
-IsPlain rows = (HasFlag (codes "off") rows → ⊥) × (HasFlag (codes "must") rows → ⊥) × (HasFlag (codes "grouped") rows → ⊥)
+IsPlain rows = (HasFlag (codes "off") rows → ⊥) × (HasFlag (codes "must") rows → ⊥) × (HasFlag (codes "grouped") rows → ⊥) × AssumesNothing rows
 
 -- Which runs are to come to the rows of any state: none where no word asks for them, and then no state is named in which they begin, and no number of states to keep.
 abbrev pub HasRuns : Option RunsWanted → List Row → Type 0
@@ -200,14 +208,6 @@ NamesWatch rows r = HasWatched rows r.all (map string_bytes r.names.items)
     × HasSwitch (codes "changes") rows r.changes
     × HasSwitch (codes "progress") rows r.progress
     × NamesTrace rows r.sim
-
--- what is assumed: all values of the option in their order, and none where it isn't given
-abbrev pub HasAssumed : List Row → List Text → Type 0
-HasAssumed rows texts = unwrap_or (all_of (codes "assume") rows) [] ≡ texts
-
--- Nothing is assumed of inputs, by the request or by its text.
-abbrev pub AssumesNothing : List Row → Type 0
-AssumesNothing rows = HasOption (codes "assume") rows None × (HasFlag (codes "assumed") rows → ⊥)
 
 -- what a request for a list of causes names
 abbrev pub NamesList : List Row → ListRequest → Type 0
@@ -305,7 +305,7 @@ Asks name rows (Possible r) = (name ≡ codes "causes")
     × HasNumber (codes "looks") rows r.looks
     × HasNumber (codes "upto") rows None
     × (HasFlag (codes "progress") rows → ⊥)
-    × AssumesNothing rows
+    × HasAssumed rows (map string_bytes r.assumed.items)
 Asks name rows (Relevant list after grouping) = (name ≡ codes "causes")
     × HasFlag (codes "relevant") rows
     × HasInputs rows false []
@@ -320,6 +320,7 @@ Asks name rows (Never r) = (name ≡ codes "never")
     × HasExcluded r.excluded rows
     × HasSwitch (codes "quiet") rows r.quiet
     × HasText (codes "file") rows (string_bytes r.file)
+    × HasAssumed rows (map string_bytes r.assumed.items)
 Asks name rows (Reach r) = (name ≡ codes "reach")
     × HasOption (codes "state") rows (option_map string_bytes r.state)
     × HasNumber (codes "at") rows r.moment
@@ -330,6 +331,7 @@ Asks name rows (Reach r) = (name ≡ codes "reach")
     × HasText (codes "name") rows (string_bytes r.name)
     × (unwrap_or (all_of (codes "inputs") rows) [] ≡ map string_bytes r.inputs.items)
     × HasSwitch (codes "progress") rows r.progress
+    × HasAssumed rows (map string_bytes r.assumed.items)
 Asks name rows (Show r) = (name ≡ codes "show")
     × HasOption (codes "stimulus") rows None
     × HasOption (codes "state") rows (option_map string_bytes r.state)
@@ -425,8 +427,10 @@ NamesDiff rows r = HasOption (codes "state") rows (option_map string_bytes r.sta
     × HasSwitch (codes "aliases") rows r.aliases
     × HasSwitch (codes "why") rows r.why
     × NamesNoSearch rows
+    × HasAssumed rows (map string_bytes r.assumed.items)
+    × HasSwitch (codes "assumed") rows r.takes_comments
 
--- Nothing is asked of given scans: no state, no moment, not how many scans there are, and no part or form of a list.
+-- Nothing is asked of given scans: no state, no moment, not how many scans there are, no part or form of a list, and nothing is assumed of inputs.
 abbrev pub NamesNoScan : List Row → Type 0
 NamesNoScan rows = HasOption (codes "state") rows None
     × HasOption (codes "new-state") rows None
@@ -435,6 +439,7 @@ NamesNoScan rows = HasOption (codes "state") rows None
     × IsSingle rows
     × HasNoPart rows
     × IsTable rows
+    × AssumesNothing rows
 
 -- what a comparison of two programs name by name names: no coil, no inputs
 abbrev pub NamesVerdicts : List Row → VerdictRequest → Type 0

@@ -47,12 +47,11 @@ IsOfOneScan rows = HasNumber (codes "scans") rows None
     × HasNumber (codes "every") rows None
     × IsUncut rows
 
--- One scan of any state, at any moment, is asked for: no moment is given, no inputs are found for one state, and nothing is assumed of inputs.
+-- One scan of any state, at any moment, is asked for: no moment is given, and no inputs are found for one state.
 abbrev pub IsOfAnyState : List Row → Type 0
 IsOfAnyState rows = HasNumber (codes "at") rows None
     × IsOfOneScan rows
     × (HasFlag (codes "relevant") rows → ⊥)
-    × AssumesNothing rows
 
 -- Nothing says which states count, whether every one is meant, how long a search is, or that runs are to come to a row.
 abbrev pub NamesNoStates : List Row → Type 0
@@ -78,7 +77,7 @@ HasPrograms rows p = HasText (codes "old") rows (string_bytes p.old)
     × HasOption (codes "state") rows (option_map string_bytes p.state)
     × HasOption (codes "new-state") rows (option_map string_bytes p.new_state)
 
--- Nothing is asked of given scans, and there are no groups.
+-- Nothing is asked of given scans, there are no groups, and nothing is assumed of inputs.
 abbrev pub NamesNoScans : List Row → Type 0
 NamesNoScans rows = HasOption (codes "state") rows None
     × HasOption (codes "new-state") rows None
@@ -86,6 +85,7 @@ NamesNoScans rows = HasOption (codes "state") rows None
     × HasNumber (codes "limit") rows None
     × IsOfOneScan rows
     × (HasFlag (codes "grouped") rows → ⊥)
+    × AssumesNothing rows
 
 -- no comparison is named
 abbrev pub NamesNoDiff : List Row → Type 0

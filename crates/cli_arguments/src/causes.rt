@@ -9,7 +9,7 @@ ghost use Rattle.cli_arguments.specs.Faults.{UsageWhere};
 use crate::found::{is_given, is_set, number};
 use crate::grouping::{groups_request, refuse_grouping, relevant_groups};
 use crate::lasting::{held_request, lasting_of};
-use crate::parts::{assumes, is_counted, list_of, names_end};
+use crate::parts::{is_counted, list_of, names_end};
 use crate::request::{ListRequest, PossibleRequest, Request, WordFault};
 use crate::runs::runs_of;
 use crate::showing::lists_inputs;
@@ -81,8 +81,7 @@ fn possible_request(alloc: Global, found: &ArgMatches<'_>) -> Result<Request, Wo
     ensures ok { IfOk result (Asks (codes "causes") (rows_of (found_of found.now))) }
     ensures err { IfErr result (UsageWhere (AsksNone (codes "causes") (rows_of (found_of found.now)))) }
 {
-    // Any state is meant, at any moment, and one scan from it; the list has its rows from the first one on, no line tells how far it is, and nothing is
-    // assumed.
+    // Any state is meant, at any moment, and one scan from it; the list has its rows from the first one on, and no line tells how far it is.
     if is_bound(found) {
         return Err(WordFault::Usage);
     }
@@ -100,6 +99,7 @@ fn possible_request(alloc: Global, found: &ArgMatches<'_>) -> Result<Request, Wo
         coil,
         all_inputs,
         inputs,
+        assumed,
         ..
     } = list_of(alloc, found)?;
     Ok(Request::Possible(PossibleRequest {
@@ -115,16 +115,16 @@ fn possible_request(alloc: Global, found: &ArgMatches<'_>) -> Result<Request, Wo
         coil,
         all_inputs,
         inputs,
+        assumed,
     }))
 }
 
-/// Whether something is asked for that doesn't go with `--any`: a moment, several scans, a part of a list, progress, the
-/// inputs that matter, or what is assumed of inputs.
+/// Whether something is asked for that doesn't go with `--any`: a moment, several scans, a part of a list, progress, or the inputs that matter.
 fn is_bound(found: &ArgMatches<'_>) -> bool
     ensures none { result ≡ false → IsOfAnyState (rows_of (found_of found.now)) }
     ensures some { result ≡ true → IsOfAnyState (rows_of (found_of found.now)) → ⊥ }
 {
-    is_given(found, "at") || is_counted(found) || is_set(found, "relevant") || assumes(found)
+    is_given(found, "at") || is_counted(found) || is_set(found, "relevant")
 }
 
 /// The request for the rows of one scan, all of them or a part, with or without progress.

@@ -6,10 +6,10 @@ ghost use Rattle.cli_arguments.specs.Asking.{HasDiffForm, HasFlag, HasInputs, Ha
 ghost use Rattle.cli_arguments.specs.Parts.{HasPrograms, MayLast, NamesNoDiff, NamesNoDiffRuns, NamesNoScans, NamesNoVerdicts};
 ghost use Rattle.cli_arguments.specs.Faults.{UsageWhere};
 
-use crate::found::{is_given, is_set, number, optional, text};
+use crate::found::{is_given, is_set, number, optional, text, texts};
 use crate::grouping::{grouping_of, refuse_grouping};
 use crate::lasting::{Lasting, count, lasting_of};
-use crate::parts::{InputNames, every_of, inputs_of, is_counted, is_part};
+use crate::parts::{InputNames, assumes, every_of, inputs_of, is_counted, is_part};
 use crate::request::{DiffForm, DiffRequest, DiffRunsRequest, Task, VerdictRequest, WordFault};
 use crate::showing::lists_inputs;
 use clap::ArgMatches;
@@ -123,6 +123,7 @@ fn diff_request(alloc: Global, found: &ArgMatches<'_>) -> Result<DiffRequest, Wo
         state,
         new_state,
     } = programs_of(alloc, found)?;
+    let assumed = texts(alloc, found, "assume")?;
     Ok(DiffRequest {
         state,
         new_state,
@@ -137,10 +138,12 @@ fn diff_request(alloc: Global, found: &ArgMatches<'_>) -> Result<DiffRequest, Wo
         inputs: names,
         aliases: is_set(found, "aliases"),
         why: is_set(found, "why"),
+        assumed,
+        takes_comments: is_set(found, "assumed"),
     })
 }
 
-/// Whether given scans are asked of, or a part of a list.
+/// Whether given scans are asked of, or a part of a list, or something is assumed of inputs.
 fn names_scan(found: &ArgMatches<'_>) -> bool
     ensures none { result ≡ false → NamesNoScans (rows_of (found_of found.now)) }
     ensures some { result ≡ true → NamesNoScans (rows_of (found_of found.now)) → ⊥ }
@@ -151,6 +154,7 @@ fn names_scan(found: &ArgMatches<'_>) -> bool
         || is_given(found, "limit")
         || is_counted(found)
         || is_set(found, "grouped")
+        || assumes(found)
 }
 
 /// Whether runs are asked of, or a number of states that a search keeps is named.

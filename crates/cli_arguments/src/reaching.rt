@@ -24,6 +24,7 @@ pub(crate) fn reach_request(alloc: Global, found: &ArgMatches<'_>) -> Result<Req
     let Sources { state, file } = sources_of(alloc, found)?;
     let name = text(alloc, found, "name")?;
     let inputs = texts(alloc, found, "inputs")?;
+    let assumed = texts(alloc, found, "assume")?;
     Ok(Request::Reach(ReachRequest {
         state,
         moment,
@@ -34,6 +35,7 @@ pub(crate) fn reach_request(alloc: Global, found: &ArgMatches<'_>) -> Result<Req
         file,
         name,
         inputs,
+        assumed,
     }))
 }
 

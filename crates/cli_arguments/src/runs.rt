@@ -7,6 +7,7 @@ ghost use Rattle.cli_arguments.specs.Parts.{NamesNoRuns};
 ghost use Rattle.cli_arguments.specs.Faults.{UsageWhere};
 
 use crate::found::{is_given, is_set, number, optional};
+use crate::parts::assumes;
 use crate::request::{RunsWanted, WordFault};
 use clap::ArgMatches;
 use std::alloc::Global;
@@ -35,7 +36,7 @@ fn wanted_runs(alloc: Global, found: &ArgMatches<'_>) -> Result<Option<RunsWante
     ensures ok { IfOk result (λ o. HasRuns o (rows_of (found_of found.now))) }
     ensures err { IfErr result (UsageWhere ((o : Option RunsWanted) → HasRuns o (rows_of (found_of found.now)) → ⊥)) }
 {
-    // A run comes to one assignment: to no group, not from every state, and the coil may be ON before.
+    // A run comes to one assignment: to no group, not from every state, with any inputs before, and the coil may be ON before.
     if !is_plain(found) {
         return Err(WordFault::Usage);
     }
@@ -52,10 +53,10 @@ fn names_runs(found: &ArgMatches<'_>) -> bool
     is_given(found, "state") || is_given(found, "states")
 }
 
-/// Whether nothing says that a coil is OFF before, that every state is to leave it ON, or that rows are groups.
+/// Whether nothing says that a coil is OFF before, that every state is to leave it ON, that rows are groups, or what is assumed of inputs.
 fn is_plain(found: &ArgMatches<'_>) -> bool
     ensures plain { result ≡ true → IsPlain (rows_of (found_of found.now)) }
     ensures other { result ≡ false → IsPlain (rows_of (found_of found.now)) → ⊥ }
 {
-    !(is_set(found, "off") || is_set(found, "must") || is_set(found, "grouped"))
+    !(is_set(found, "off") || is_set(found, "must") || is_set(found, "grouped") || assumes(found))
 }

@@ -339,10 +339,12 @@ fn never_request(alloc: Global, found: &ArgMatches<'_>) -> Result<Request, WordF
     let excluded = excluded_of(found)?;
     let quiet = is_set(found, "quiet");
     let Sources { state, file } = sources_of(alloc, found)?;
+    let assumed = texts(alloc, found, "assume")?;
     Ok(Request::Never(NeverRequest {
         state,
         excluded,
         quiet,
         file,
+        assumed,
     }))
 }

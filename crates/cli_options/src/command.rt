@@ -167,6 +167,8 @@ const USES: &[Word] = &[
 
 const NEVER: &[Word] = &[
     Word::Text("state", "STATE", STATE_HELP),
+    Word::Texts("assume", "EXPRESSION", SCANS_ASSUME_HELP),
+    Word::Flag("assumed", SCANS_ASSUMED_HELP),
     Word::Flag("off", NEVER_OFF_HELP),
     Word::Flag("pairs", PAIRS_HELP),
     Word::Flag("quiet", QUIET_HELP),
@@ -183,6 +185,8 @@ const REACH: &[Word] = &[
     Word::Small("states", "N", REACH_STATES_HELP),
     Word::Text("both", "NAME", REACH_BOTH_HELP),
     Word::Number("gap", "MS", REACH_GAP_HELP),
+    Word::Texts("assume", "EXPRESSION", SCANS_ASSUME_HELP),
+    Word::Flag("assumed", SCANS_ASSUMED_HELP),
     Word::Flag("progress", REACH_PROGRESS_HELP),
     Word::Flag("why", EXPLAIN_HELP),
     Word::Place("file", "FILE", FILE_HELP),
@@ -200,6 +204,8 @@ const DIFF: &[Word] = &[
     Word::Number("scans", "N", DIFF_SCANS_HELP),
     Word::Number("for", "MS", FOR_HELP),
     Word::Number("every", "MS", EVERY_HELP),
+    Word::Texts("assume", "EXPRESSION", DIFF_ASSUME_HELP),
+    Word::Flag("assumed", DIFF_ASSUMED_HELP),
     Word::Flag("grouped", DIFF_GROUPED_HELP),
     Word::Flag("terms", DIFF_TERMS_HELP),
     Word::Flag("st", DIFF_STATEMENT_HELP),

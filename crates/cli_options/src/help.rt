@@ -339,11 +339,27 @@ stores";
 
 pub(crate) const ASSUME_HELP: &str = "Counts only combinations with which EXPRESSION, in
 Structured Text over inputs, is true; may be given
-several times; not with --any";
+several times; not with --runs";
 
 pub(crate) const ASSUMED_HELP: &str = "Counts only combinations with which each EXPRESSION
 of the comments (* assume: EXPRESSION *) before
-END_VAR is true; not with --any";
+END_VAR is true; not with --runs";
+
+pub(crate) const SCANS_ASSUME_HELP: &str = "Counts only scans with whose inputs EXPRESSION, in
+Structured Text over inputs, is true; may be given
+several times";
+
+pub(crate) const SCANS_ASSUMED_HELP: &str = "Counts only scans with whose inputs each EXPRESSION
+of the comments (* assume: EXPRESSION *) before
+END_VAR is true";
+
+pub(crate) const DIFF_ASSUME_HELP: &str = "With COIL: counts only combinations with which
+EXPRESSION, in Structured Text over inputs, is true
+in both programs; may be given several times";
+
+pub(crate) const DIFF_ASSUMED_HELP: &str = "With COIL: counts only combinations with which each
+EXPRESSION of the comments (* assume: EXPRESSION *)
+before END_VAR is true in its program";
 
 pub(crate) const GROUPED_HELP: &str = "Lists the causes in groups: how many each has, and
 - for an input that doesn't matter there; not with
@@ -363,8 +379,7 @@ list (as without it)";
 pub(crate) const ANY_HELP: &str = "Lists what some state, at some moment, switches on:
 a row for each such assignment, marked ? where that
 isn't settled; not with --at, --after, --scans,
---for, --every, --assume or --assumed; --state only
-with --runs";
+--for or --every; --state only with --runs";
 
 pub(crate) const OFF_HELP: &str = "With --any: counts only states in which the coil is
 OFF, so lists what can switch it ON";
@@ -385,7 +400,7 @@ pub(crate) const RUNS_HELP: &str = "With --any: asks of each row whether a run f
 fresh state, or from STATE, comes to it: marked r
 where one does, left out where none does, 1 or ? as
 before where that isn't settled; not with --off,
---must or --grouped";
+--must, --grouped, --assume or --assumed";
 
 pub(crate) const RUN_STATES_HELP: &str = "With --runs: how many states the search of one row
 keeps at most, up to 4294967295; without it 100000";

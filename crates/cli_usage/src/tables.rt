@@ -18,8 +18,6 @@ const CAUSES: &[Rule] = &[
             Term::Valued("scans"),
             Term::Valued("for"),
             Term::Valued("every"),
-            Term::Valued("assume"),
-            Term::Flag("assumed"),
             Term::Flag("relevant"),
             Term::Flag("terms"),
             Term::Flag("st"),
@@ -30,7 +28,7 @@ const CAUSES: &[Rule] = &[
     Rule::Wants(&[Term::Flag("must")], &[Term::Flag("any")]),
     Rule::Wants(&[Term::Flag("reachable")], &[Term::Flag("any")]),
     Rule::Wants(&[Term::Valued("looks")], &[Term::Flag("any")]),
-    // A run comes to one combination: to no group, not from every state, and the coil may be ON before.
+    // A run comes to one combination: to no group, not from every state, with any inputs before, and the coil may be ON before.
     Rule::Wants(&[Term::Flag("runs")], &[Term::Flag("any")]),
     Rule::Wants(&[Term::Valued("states")], &[Term::Flag("runs")]),
     Rule::Wants(
@@ -39,7 +37,13 @@ const CAUSES: &[Rule] = &[
     ),
     Rule::Excludes(
         &[Term::Flag("runs")],
-        &[Term::Flag("off"), Term::Flag("must"), Term::Flag("grouped")],
+        &[
+            Term::Flag("off"),
+            Term::Flag("must"),
+            Term::Flag("grouped"),
+            Term::Valued("assume"),
+            Term::Flag("assumed"),
+        ],
     ),
     // The inputs are found, and matter in one scan; their list has no part.
     Rule::Excludes(
@@ -137,6 +141,8 @@ const DIFF: &[Rule] = &[
         &[Term::Place("coil", "COIL")],
     ),
     Rule::Wants(&[Term::Flag("all-inputs")], &[Term::Place("coil", "COIL")]),
+    Rule::Wants(&[Term::Valued("assume")], &[Term::Place("coil", "COIL")]),
+    Rule::Wants(&[Term::Flag("assumed")], &[Term::Place("coil", "COIL")]),
     Rule::Wants(&[Term::Valued("states")], &[Term::Flag("runs")]),
     // Runs begin in the fresh states, so no state is looked at alone.
     Rule::Excludes(
