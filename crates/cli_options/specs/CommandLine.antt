@@ -67,18 +67,19 @@ abbrev pub uses_app : App
 uses_app = taking (codes "uses") (flag_rule (codes "aliases") ∷ flag_rule (codes "why") ∷ place_rule (codes "file") ∷ [])
 
 abbrev pub never_app : App
-never_app = taking (codes "never") (text_rule (codes "state") ∷ flag_rule (codes "off") ∷ flag_rule (codes "pairs") ∷ flag_rule (codes "quiet") ∷ flag_rule (codes "aliases") ∷ flag_rule (codes "why") ∷ place_rule (codes "file") ∷ [])
+never_app = taking (codes "never") (text_rule (codes "state") ∷ texts_rule (codes "assume") ∷ flag_rule (codes "assumed") ∷ flag_rule (codes "off") ∷ flag_rule (codes "pairs") ∷ flag_rule (codes "quiet") ∷ flag_rule (codes "aliases") ∷ flag_rule (codes "why") ∷ place_rule (codes "file") ∷ [])
 
 abbrev pub reach_app : App
 reach_app = taking (codes "reach") (
     text_rule (codes "state") ∷ number_rule (codes "at") ∷ positive_rule (codes "every") ∷ positive_rule (codes "scans") ∷ small_rule (codes "states")
-    ∷ text_rule (codes "both") ∷ number_rule (codes "gap") ∷ flag_rule (codes "progress") ∷ flag_rule (codes "why") ∷ place_rule (codes "file") ∷ place_rule (codes "name") ∷ list_rule (codes "inputs") ∷ []
+    ∷ text_rule (codes "both") ∷ number_rule (codes "gap") ∷ texts_rule (codes "assume") ∷ flag_rule (codes "assumed") ∷ flag_rule (codes "progress") ∷ flag_rule (codes "why") ∷ place_rule (codes "file") ∷ place_rule (codes "name") ∷ list_rule (codes "inputs") ∷ []
     )
 
 abbrev pub diff_app : App
 diff_app = taking (codes "diff") (
     text_rule (codes "state") ∷ text_rule (codes "new-state") ∷ number_rule (codes "at") ∷ number_rule (codes "after") ∷ number_rule (codes "upto") ∷ number_rule (codes "limit")
-    ∷ number_rule (codes "scans") ∷ number_rule (codes "for") ∷ number_rule (codes "every") ∷ flag_rule (codes "grouped") ∷ flag_rule (codes "terms") ∷ flag_rule (codes "st") ∷ text_rule (codes "order")
+    ∷ number_rule (codes "scans") ∷ number_rule (codes "for") ∷ number_rule (codes "every")
+    ∷ texts_rule (codes "assume") ∷ flag_rule (codes "assumed") ∷ flag_rule (codes "grouped") ∷ flag_rule (codes "terms") ∷ flag_rule (codes "st") ∷ text_rule (codes "order")
     ∷ small_rule (codes "looks") ∷ flag_rule (codes "reachable") ∷ flag_rule (codes "runs") ∷ small_rule (codes "states") ∷ text_rule (codes "save") ∷ flag_rule (codes "all-inputs") ∷ flag_rule (codes "progress") ∷ flag_rule (codes "quiet") ∷ flag_rule (codes "aliases") ∷ flag_rule (codes "why")
     ∷ place_rule (codes "old") ∷ place_rule (codes "new") ∷ free_place_rule (codes "coil") ∷ list_rule (codes "inputs") ∷ []
     )
