@@ -1,31 +1,16 @@
 -- Lists of the combinations with which what is assumed is true.
-use Rattle.std.proofs.Common.{◌≡◌, ◌∙◌, ap, sym, refl, subst, ℕ, ◌<◌, ◌≤◌, Bool, List, [], ◌∷◌, ◌++◌, length, map, ◌⊎◌, inl, inr, Option, Some, None, Result, Ok, Err}
+use Rattle.std.proofs.Common.{◌≡◌, sym, refl, subst, ℕ, ◌≤◌, List, length, ◌⊎◌, inl, inr, Option, Some, None, Result, Ok, Err}
 use Rattle.std.specs.Option.{option_or}
-use Rattle.std.proofs.lemmas.Nat.{pow_pos}
-use Rattle.st_expression.specs.declared.expression.Expression.{Expression}
-use Rattle.diagram_declarations.specs.Decls.{Declared, is_input}
 use Rattle.io_text.specs.Log.{WriteLog}
 use Rattle.causes_query.specs.Causes.{Question}
 use Rattle.causes_query.specs.Refusal.{refusal}
-use Rattle.causes_query.specs.Sources.{image_of, sources_of}
 use Rattle.causes_query.specs.declared.fault.CauseFault.{CauseFault}
 use Rattle.causes_query.specs.declared.fault.CauseFault.TheVariants as cause
 use Rattle.causes_query.specs.declared.limit.TheConstants.{LISTED_LIMIT}
-use Rattle.causes_query.specs.declared.source.InputSource.{InputSource}
-use Rattle.causes_query.proofs.Asking.{inputs_are}
 use Rattle.causes_query.proofs.Refusals.{accepted}
-use Rattle.assume_search.specs.Counted.{is_counted}
-use Rattle.assume_truth.specs.Truth.{is_allowed}
-use Rattle.assume_possible.specs.Possible.{IsImpossible, IsPossible}
 use Rattle.cli_inputs.specs.declared.fault.ToolFault.{ToolFault}
 use Rattle.cli_inputs.specs.declared.fault.ToolFault.TheVariants as fault
 use Rattle.cli_inputs.specs.Reports.{HasCauseFault}
-use Rattle.st_words.specs.Places.{AreBetween}
-use Rattle.st_words.specs.declared.word.Word.{Word}
-use Rattle.assume_reading.specs.Reading.{Refuses}
-use Rattle.assume_reading.specs.declared.fault.AssumptionFault.{AssumptionFault}
-use Rattle.assume_reading.specs.declared.fault.AssumptionFault.TheVariants as assumption
-use Rattle.cli_assumed.specs.Assumed.{IsEverTrue, IsNeverTrue, IsWordAt}
 use Rattle.cli_lists.specs.Lists.{list_refusal}
 use Rattle.cli_lists.specs.Writing.{WritesSummed}
 
