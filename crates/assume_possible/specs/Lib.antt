@@ -1,1 +1,2 @@
 pub mod Possible
+pub mod Satisfiable
