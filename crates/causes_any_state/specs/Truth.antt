@@ -17,7 +17,3 @@ stored_inputs inputs values = map (λ var. slice_index_or values var false) inpu
 -- with the numbers of a block, place by place
 abbrev pub block_input : List Word64 → ℕ → Word64
 block_input image place = slice_index_or image place (words.known false)
-
--- by what is known of the variables
-abbrev pub known_input : List ℕ → List Tri → ℕ → Tri
-known_input inputs values place = slice_index_or (map (λ var. slice_index_or values var Off) inputs) place Off

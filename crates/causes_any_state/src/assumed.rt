@@ -9,10 +9,8 @@ ghost use Rattle.scan_signals.specs.declared.tri.Tri.TheVariants.{Off};
 ghost use Rattle.causes_any_state.specs.Truth.{block_input, open_input, stored_inputs};
 
 use crate::numbers::open_bit;
-use assume_truth::{Inputs, assumed_truth, is_named};
-use invariant_cases::{Outcome, Point};
+use assume_truth::{Inputs, assumed_truth};
 use scan_cycle::State;
-use scan_partial::Knowledge;
 use scan_signals::{Operations, Tri, Word64};
 use st_expression::Expression;
 
@@ -84,28 +82,6 @@ impl<'a> Inputs for BlockInputs<'a> {
     }
 }
 
-/// The inputs by what is known of the variables.
-#[derive(Clone, Copy)]
-struct KnownInputs<'a> {
-    inputs: &'a [usize],
-    known: &'a Knowledge<Tri, Outcome>,
-}
-
-impl<'a> Inputs for KnownInputs<'a> {
-    ghost use Rattle.causes_any_state.specs.Truth.{known_input};
-
-    type Signal = Tri;
-
-    ghost signal = { λ i place. known_input i.inputs.now i.known.now.values place };
-
-    fn signal(&self, place: usize) -> Tri {
-        match self.inputs.get(place) {
-            Some(input) => self.known.value(*input),
-            None => Tri::Off,
-        }
-    }
-}
-
 /// Whether what is known is that it is OFF.
 fn is_off(known: Tri) -> bool
     ensures { result ≡ true → known ≡ Off }
@@ -149,29 +125,4 @@ pub(crate) fn true_places(assumed: Option<&Expression>, image: &[Word64]) -> u64
 {
     let block = BlockInputs { image };
     assumed_truth(assumed, &block).0
-}
-
-/// Whether it is known to be false in the states that a case allows.
-pub(crate) fn is_false_in(
-    assumed: Option<&Expression>,
-    inputs: &[usize],
-    known: &Knowledge<Tri, Outcome>,
-) -> bool {
-    let by_case = KnownInputs { inputs, known };
-    is_off(assumed_truth(assumed, &by_case))
-}
-
-/// An input that it names and that a case leaves open.
-pub(crate) fn open_operand(
-    assumed: Option<&Expression>,
-    inputs: &[usize],
-    known: &Knowledge<Tri, Outcome>,
-) -> Option<Point> {
-    for place in 0..inputs.len() {
-        let input = inputs[place];
-        if known.value(input) == Tri::Unsure && is_named(assumed, place) {
-            return Some(Point::Variable(input));
-        }
-    }
-    None
 }

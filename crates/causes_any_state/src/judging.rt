@@ -19,7 +19,7 @@ use diagram_declarations::Symbol;
 use invariant_cases::cases::settle;
 use invariant_cases::laws::settled_both;
 use invariant_cases::pinning::pin;
-use invariant_cases::{Outcome, Pair, Point, Question};
+use invariant_cases::{Assumption, Outcome, Pair, Point, Question};
 use invariant_sets::knowing::know;
 use scan_partial::Knowledge;
 use scan_signals::Tri;
@@ -104,6 +104,7 @@ pub(crate) fn is_never(
     let question = Question {
         program: asked.program,
         writers: &space.knowing.writers,
+        assumption: Assumption::nothing(),
         pairs: pairs(asked.states),
         target: Pair::of_itself(Symbol::Var(asked.coil)),
         wanted: !asked.sought,

@@ -5,7 +5,6 @@ ghost use Rattle.scan_partial.specs.Sizes.{AreAsLong};
 ghost use Rattle.causes_any_state.specs.Possible.{AreStatesOf, SomeLeavesBy, pairs_of};
 ghost use Rattle.causes_any_state.specs.Searching.{AreStateBuffers};
 
-use crate::assumed::{is_false_in, open_operand};
 use crate::buffers::StateBuffers;
 use crate::candidate::is_found;
 use crate::query::StateQuery;
@@ -15,7 +14,7 @@ use invariant_cases::cases::look;
 use invariant_cases::choosing::open_point;
 use invariant_cases::partners::next_forced;
 use invariant_cases::pinning::{is_known, pin, pin_answer};
-use invariant_cases::{Answer, Outcome, Pair, Point, Question, ScanKnowledge};
+use invariant_cases::{Answer, Assumption, Outcome, Pair, Point, Question, ScanKnowledge};
 use scan_partial::Knowledge;
 use scan_signals::Tri;
 use st_expression::Expression;
@@ -53,6 +52,14 @@ fn leave(point: Point, case: &mut Knowledge<Tri, Outcome>)
     }
 }
 
+/// What is assumed of these inputs.
+fn assumption_of<'a>(assumed: Option<&'a Expression>, inputs: &'a [usize]) -> Assumption<'a> {
+    Assumption {
+        inputs,
+        expression: assumed,
+    }
+}
+
 /// A point that leaves the coil open after the scan of the case, or where none does, one that may leave open what is assumed.
 fn next_point(
     asked: StateQuery<'_>,
@@ -68,7 +75,7 @@ fn next_point(
     };
     match open_point(sight, Point::Variable(asked.coil)) {
         Some(point) => Some(point),
-        None => open_operand(assumed, &space.sight.inputs, &known.buffers.case),
+        None => assumption_of(assumed, &space.sight.inputs).open_input(&known.buffers.case),
     }
 }
 
@@ -80,7 +87,7 @@ fn is_hopeless(
     space: &StateBuffers,
 ) -> bool {
     is_known(value, !asked.sought)
-        || is_false_in(assumed, &space.sight.inputs, &space.knowing.buffers.case)
+        || assumption_of(assumed, &space.sight.inputs).is_false(&space.knowing.buffers.case)
 }
 
 /// Tries to find a state that leaves the coil at the sought value, among those that the case allows: by further cases, and by at most
@@ -110,6 +117,8 @@ pub(crate) fn seek(
     let question = Question {
         program: asked.program,
         writers: &space.knowing.writers,
+        // A look asks nothing of it.
+        assumption: Assumption::nothing(),
         pairs: pairs(asked.states),
         target: Pair::of_itself(Symbol::Var(asked.coil)),
         wanted: asked.sought,

@@ -1,2 +1,3 @@
+pub mod Allowing
 mod PossibleEnds
 mod RunEnds
