@@ -1,9 +1,10 @@
 -- What a request assumes of the inputs: how it is read, and what is refused of it.
-use Rattle.std.specs.Prelude.{◌≡◌, ◌⊎◌, ◌+◌, ◌<◌, ◌^◌, ℕ, true, false, List, Option, length}
+use Rattle.std.specs.Prelude.{◌≡◌, ◌⊎◌, ◌+◌, ◌<◌, ◌^◌, ℕ, true, false, List, Option, None, Some, length}
 use Rattle.st_expression.specs.declared.expression.Expression.{Expression}
 use Rattle.diagram_declarations.specs.Decls.{Declared}
 use Rattle.causes_query.specs.Causes.{Question}
 use Rattle.assume_search.specs.Counted.{is_counted}
+use Rattle.assume_possible.specs.Satisfiable.{IsSatisfiable, IsUnsatisfiable}
 use Rattle.assume_reading.specs.Several.{AreAssumptions, IsFirstRefused}
 use Rattle.assume_reading.specs.declared.fault.AssumptionFault.{AssumptionFault}
 use Rattle.assume_reading.specs.declared.fault.AssumptionFault.TheVariants as assumption
@@ -48,3 +49,27 @@ AfterReading texts Refused q f = HasAssumptionFault q.program.decls texts f
 
 abbrev pub AssumingFault : (texts : List (List ℕ)) → (Question → ToolFault → Type 0) → Question → ToolFault → Type 0
 AssumingFault texts Refused = AfterReading texts (λ assumed. AssumedFault assumed Refused)
+
+-- ---- where inputs that aren't listed are open too
+
+-- Some values of all inputs make it true; where nothing is assumed, any do.
+abbrev pub MayBeTrue : Option Expression → Type 0
+MayBeTrue None = Unit {0}
+MayBeTrue (Some e) = IsSatisfiable e
+
+-- None do.
+abbrev pub CannotBeTrue : Option Expression → Type 0
+CannotBeTrue None = ⊥
+CannotBeTrue (Some e) = IsUnsatisfiable e
+
+-- It can't be true, or memory ran out before that was known.
+abbrev pub HasTruthFault : Option Expression → ToolFault → Type 0
+HasTruthFault assumed f = (f ≡ fault.Memory) ⊎ ((f ≡ fault.NeverTrue) × CannotBeTrue assumed)
+
+-- A form of what is assumed of all inputs, by the expressions of a request.
+abbrev pub AssumingAnywhere : (texts : List (List ℕ)) → (Option Expression → Form) → Form
+AssumingAnywhere texts Is q text c = (assumed : Option Expression) × AreAssumptions q.program.decls texts assumed × MayBeTrue assumed × Is assumed q text c
+
+-- Faults are looked for in the expressions first, then in whether they can be true together, and then in what is asked.
+abbrev pub AssumingAnywhereFault : (texts : List (List ℕ)) → (Question → ToolFault → Type 0) → Question → ToolFault → Type 0
+AssumingAnywhereFault texts Refused = AfterReading texts (λ assumed q f. HasTruthFault assumed f ⊎ Refused q f)

@@ -3,6 +3,8 @@
 
 mod possible;
 mod reading;
+mod satisfiable;
 
 pub use possible::check_possible;
 pub use reading::read_assumed;
+pub use satisfiable::check_satisfiable;
