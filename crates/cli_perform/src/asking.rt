@@ -11,7 +11,7 @@ use crate::coils::coil_names;
 use causes_query::CauseFault;
 use causes_query::refusal::refusal;
 use cli_arguments::{ListRequest, PossibleRequest, Request};
-use cli_assumed::read_assumed;
+use cli_assumed::{check_satisfiable, read_assumed};
 use cli_inputs::{
     CauseVariables, Setting, Texts, ToolFault, asked_variables, moment, read_setting,
 };
@@ -216,6 +216,18 @@ fn check_relevant(
     check_rules(setting, now, &named, None)
 }
 
+/// Refuses what is assumed of the inputs where it can't be read, or where no values of them make it true.
+fn check_anywhere(alloc: Global, texts: &[String], setting: &Setting) -> Result<(), ToolFault> {
+    match read_assumed(alloc, &setting.program, texts) {
+        Ok(assumed) => {
+            let checked = check_satisfiable(alloc, assumed.as_ref());
+            drop(assumed);
+            checked
+        }
+        Err(fault) => Err(fault),
+    }
+}
+
 /// Refuses a list over any state that can't be made of this coil.
 fn check_possible(
     alloc: Global,
@@ -230,6 +242,7 @@ fn check_possible(
         possible.all_inputs,
         &possible.inputs,
     )?;
+    check_anywhere(alloc, &possible.assumed, setting)?;
     if possible.grouped && is_too_wide(&named) {
         return Err(ToolFault::Cause(CauseFault::TooManyFree));
     }

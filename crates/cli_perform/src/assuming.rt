@@ -6,12 +6,12 @@ ghost use Rattle.cli_inputs.specs.Reports.{Refuses, logs};
 ghost use Rattle.cli_inputs.specs.Setting.{given_by};
 ghost use Rattle.cli_inputs.specs.declared.fault.ToolFault.TheVariants.{Memory};
 ghost use Rattle.cli_perform.specs.Advised.{FailsAdvised};
-ghost use Rattle.cli_perform.specs.Assuming.{AssumesFirst, IsAssuming, TakesComments};
+ghost use Rattle.cli_perform.specs.Assuming.{AssumesFirst, AssumesFirstInAny, IsAssuming, TakesComments};
 ghost use Rattle.cli_perform.specs.Performs.{IsDone};
 
 use crate::advised::perform_advised;
 use assume_comments::assumed_in;
-use cli_arguments::{ListRequest, Request};
+use cli_arguments::{ListRequest, PossibleRequest, Request};
 use cli_inputs::{Texts, ToolFault, report};
 use io_text::Sink;
 use std::alloc::{AllocError, Global};
@@ -25,7 +25,15 @@ fn assume_first(list: &mut ListRequest, texts: Vec<String>) -> Result<(), AllocE
     list.assumed.append(&mut own)
 }
 
-/// Assumes these expressions in a request for a list of one state, before its own. Any other request stays as it is.
+/// Assumes these expressions in a request for a list of any state, before its own.
+fn assume_first_in_any(possible: &mut PossibleRequest, texts: Vec<String>) -> Result<(), AllocError>
+    ensures { IfOk result (λ _. AssumesFirstInAny (map string_bytes texts.items) possible.old possible.new) }
+{
+    let mut own = mem::replace(&mut possible.assumed, texts);
+    possible.assumed.append(&mut own)
+}
+
+/// Assumes these expressions in a request for a list of one state or of any, before its own. Any other request stays as it is.
 fn assume_all(request: &mut Request, texts: Vec<String>) -> Result<(), AllocError>
     ensures { IfOk result (λ _. IsAssuming (map string_bytes texts.items) request.old request.new) }
 {
@@ -35,8 +43,8 @@ fn assume_all(request: &mut Request, texts: Vec<String>) -> Result<(), AllocErro
         Request::Held { list, .. } => assume_first(list, texts),
         Request::Groups { list, .. } => assume_first(list, texts),
         Request::Relevant { list, .. } => assume_first(list, texts),
-        Request::Possible(_)
-        | Request::Check { .. }
+        Request::Possible(possible) => assume_first_in_any(possible, texts),
+        Request::Check { .. }
         | Request::Never(_)
         | Request::Reach(_)
         | Request::Show(_)
@@ -55,7 +63,7 @@ fn assume_all(request: &mut Request, texts: Vec<String>) -> Result<(), AllocErro
     }
 }
 
-/// Assumes in a request for a list of one state what the comments of its program text assume, before what it assumes by itself.
+/// Assumes in a request for a list of one state or of any what the comments of its program text assume, before what it assumes by itself.
 ///
 /// # Errors
 ///

@@ -1,5 +1,5 @@
 -- How a list of what some state, or every one, switches on ends.
-use Rattle.std.proofs.Common.{◌≡◌, ◌∙◌, ◌⊎◌, ◌^◌, ℕ, Bool, true, false, List, None, Option, Some, ap, inl, inr, length, refl, subst, sym}
+use Rattle.std.proofs.Common.{◌≡◌, ◌≢◌, ◌∙◌, ◌⊎◌, ◌^◌, ℕ, zero, suc, Bool, true, false, List, None, Option, Some, Result, Ok, Err, ap, inl, inr, length, refl, subst, sym}
 use Rattle.std.specs.Prelude.{IfSome, count_by, not}
 use Rattle.diagram_program.specs.Program.{Drawing}
 use Rattle.causes_query.specs.Causes.{Question}
@@ -12,16 +12,22 @@ use Rattle.causes_any_state.specs.Cursor.{PossibleGroupCursor}
 use Rattle.search_groups.specs.Classes.{numbers_in}
 use Rattle.text_causes.specs.CauseText.{limited}
 use Rattle.text_lists.specs.ClassText.{possible_group_text, unsettled_in}
-use Rattle.text_lists.specs.PossibleText.{AreAll, AreFew, Gave, IsCount, possible_text}
-use Rattle.text_lists.specs.declared.possible_group_text.PossibleGroupSummary.{PossibleGroupSummary}
-use Rattle.text_lists.specs.declared.possible_text.PossibleSummary.{PossibleSummary}
+use Rattle.text_lists.specs.PossibleText.{AreAll, AreFew, Gave, possible_text}
+use Rattle.search_groups.specs.declared.class_walk.ClassGroup.{ClassGroup}
+use Rattle.st_expression.specs.declared.expression.Expression.{Expression}
+use Rattle.io_text.specs.Log.{WriteLog}
+use Rattle.cli_inputs.specs.Reports.{HasCauseFault}
+use Rattle.cli_inputs.specs.declared.fault.ToolFault.{ToolFault}
+use Rattle.cli_inputs.specs.declared.fault.ToolFault.TheVariants as fault
 use Rattle.cli_inputs.specs.Setting.{Given}
 use Rattle.cli_arguments.specs.declared.request.PossibleRequest.{PossibleRequest}
+use Rattle.cli_arguments.specs.declared.request.RunsWanted.{RunsWanted}
 use Rattle.cli_questions.specs.declared.counting.ListCounts.{ListCounts}
 use Rattle.cli_questions.specs.declared.counting.ListCounts.TheVariants as counts
 use Rattle.cli_states.specs.Query.{AsksFor, at_stored}
-use Rattle.cli_questions.specs.Ending.{IsNamed}
-use Rattle.cli_states.specs.AnyState.{IsStayingBy, PossibleList, counted, possible_group_counts}
+use Rattle.cli_questions.specs.Ending.{IsNamed, Listing}
+use Rattle.cli_questions.specs.Query.{Writes}
+use Rattle.cli_states.specs.AnyState.{AnyStateBy, AnyStateRefusal, AssumedPossibleBy, AssumedPossibleRefusal, IsStayingBy, PossibleBy, PossibleListBy, PossibleRowsBy, counted, possible_counts, possible_group_counts, possible_refusal_by}
 
 -- What stays so is said of the program's own names.
 of_program : (p : Drawing) (off : Bool) (staying : Option Staying) → MayBeOf p staying → AreStatesOf p (counted off staying)
@@ -36,13 +42,24 @@ states_of true off p s staying (known, same, is, reached, told) =
 pub asked_of_all : (g : Given) (coil : List ℕ) (all : Bool) (inputs : List (List ℕ)) (q : Question) → IsNamed g coil None all inputs q → IsNamed g coil None all inputs (at_stored q)
 asked_of_all g coil all inputs q h = (record { set = h.0.set; at = refl; on = h.0.on }, h.1)
 
+-- ---- what is counted
+
+pub counts_some : (n : ℕ) (rows : List PossibleCause) → n ≢ 0 → possible_counts n rows ≡ counts.AssumedPossible (length rows) (count_by (λ row. not row.is_settled) rows) n
+counts_some zero rows some = absurd (some refl)
+counts_some (suc n) rows some = refl
+
+pub group_counts_some : (n k : ℕ) (groups : List ClassGroup) → n ≢ 0
+    → possible_group_counts n k groups ≡ counts.AssumedPossibleGroups (length groups) (numbers_in k groups) (unsettled_in k groups) n
+group_counts_some zero k groups some = absurd (some refl)
+group_counts_some (suc n) k groups some = refl
+
 -- ---- a row for each number
 
-module _ (r : PossibleRequest) (q : Question) (c d : PossibleCursor) (rows : List PossibleCause) (accepted : refusal q None ≡ None) (made : AsksFor r.off r.must r q c)
-    (gave : Gave c rows d) (few : AreFew r.limit rows) where
+module _ (assumed : Option Expression) (expressions : ℕ) (r : PossibleRequest) (q : Question) (c d : PossibleCursor) (rows : List PossibleCause) (accepted : refusal q None ≡ None)
+    (made : AsksFor assumed r.off r.must r q c) (gave : Gave c rows d) (few : AreFew r.limit rows) where
   counted_by : (n : Option ListCounts) → IfSome n (λ _. (d.from ≡ 2 ^ length q.listed) ⊎ (r.limit ≡ Some (length rows)))
-      → IfSome n (λ m. m ≡ counts.Possible (length rows) (count_by (λ row. not row.is_settled) rows))
-      → PossibleList r q (possible_text c.program c.listed rows) n
+      → IfSome n (λ m. m ≡ possible_counts expressions rows)
+      → PossibleListBy assumed expressions r q (possible_text c.program c.listed rows) n
   counted_by n all count = record {
     accepted = accepted;
     staying = made.staying;
@@ -56,7 +73,7 @@ module _ (r : PossibleRequest) (q : Question) (c d : PossibleCursor) (rows : Lis
     count = count;
   }
 
-  pub are_some : PossibleList r q (possible_text c.program c.listed rows) None
+  pub are_some : PossibleListBy assumed expressions r q (possible_text c.program c.listed rows) None
   are_some = counted_by None tt tt
 
   all_of : AreAll d rows r.limit → (d.from ≡ 2 ^ length q.listed) ⊎ (r.limit ≡ Some (length rows))
@@ -64,10 +81,8 @@ module _ (r : PossibleRequest) (q : Question) (c d : PossibleCursor) (rows : Lis
       inl (e ∙ ap (λ (xs : List ℕ). 2 ^ length xs) (ap (λ (x : PossibleCursor). x.listed) gave.same ∙ ap (λ (x : PossibleCursor). x.listed) made.same))
   all_of (inr e) = inr e
 
-  pub are_all : (s : PossibleSummary) → IsCount s rows → AreAll d rows r.limit → PossibleList r q (possible_text c.program c.listed rows) (Some (counts.Possible s.rows s.unsettled))
-  are_all s count all = counted_by (Some (counts.Possible s.rows s.unsettled)) (all_of all)
-      (ap (λ (n : ℕ). counts.Possible n s.unsettled) count.0
-      ∙ ap (λ (n : ℕ). counts.Possible (length rows) n) count.1)
+  pub are_all : (n : ListCounts) → n ≡ possible_counts expressions rows → AreAll d rows r.limit → PossibleListBy assumed expressions r q (possible_text c.program c.listed rows) (Some n)
+  are_all n count all = counted_by (Some n) (all_of all) count
 
 -- ---- in groups
 
@@ -77,11 +92,53 @@ module _ (r : PossibleRequest) (q : Question) (c : PossibleGroupCursor) (of_prog
       ap (λ (d : Drawing). possible_group_text d c.listed (limited r.limit c.rest)) of_program
       ∙ ap (λ (xs : List ℕ). possible_group_text q.program xs (limited r.limit c.rest)) of_listed
 
-  pub group_counts_are : (s : PossibleGroupSummary) → s.rows ≡ length (limited r.limit c.rest) → s.causes ≡ numbers_in (length c.listed) (limited r.limit c.rest)
-      → s.unsettled ≡ unsettled_in (length c.listed) (limited r.limit c.rest) → counts.PossibleGroups s.rows s.causes s.unsettled ≡ possible_group_counts (length q.listed) (limited r.limit c.rest)
-  group_counts_are s many all unsure =
-      let groups = limited r.limit c.rest in
-      ap (λ (n : ℕ). counts.PossibleGroups n s.causes s.unsettled) many
-      ∙ ap (λ (n : ℕ). counts.PossibleGroups (length groups) n s.unsettled) all
-      ∙ ap (λ (n : ℕ). counts.PossibleGroups (length groups) (numbers_in (length c.listed) groups) n) unsure
-      ∙ ap (λ (xs : List ℕ). possible_group_counts (length xs) groups) of_listed
+  pub group_counts_are : (expressions : ℕ) (n : ListCounts) → n ≡ possible_group_counts expressions (length c.listed) (limited r.limit c.rest)
+      → n ≡ possible_group_counts expressions (length q.listed) (limited r.limit c.rest)
+  group_counts_are expressions n h = h ∙ ap (λ (xs : List ℕ). possible_group_counts expressions (length xs) (limited r.limit c.rest)) of_listed
+
+-- ---- what is written
+
+-- the same said in another way
+pub writes_as : (Is Js : Listing) (Refused Refuses : ToolFault → Type 0) (o o' : WriteLog) (w : Result ListCounts ToolFault)
+    → ((text : List ℕ) (c : Option ListCounts) → Is text c → Js text c) → ((f : ToolFault) → Refused f → Refuses f)
+    → Writes Is Refused o o' w → Writes Js Refuses o o' w
+writes_as Is Js Refused Refuses o o' (Ok c) is refuses h = (h.0, is h.0 (Some c) h.1, h.2)
+writes_as Is Js Refused Refuses o o' (Err f) is refuses (inl h) = inl (refuses f h.0, h.1)
+writes_as Is Js Refused Refuses o o' (Err f) is refuses (inr h) = inr (h.0, (h.1.0, is h.1.0 None h.1.1, h.1.2))
+
+module _ (r : PossibleRequest) (q : Question) (o o' : WriteLog) (w : Result ListCounts ToolFault) where
+  -- in groups, or not
+  pub written_either : (assumed : Option Expression) (n : ℕ) (grouped b : Bool) → grouped ≡ b
+      → Writes (PossibleRowsBy b assumed n r q) (HasCauseFault (possible_refusal_by None b q)) o o' w
+      → Writes (PossibleRowsBy grouped assumed n r q) (HasCauseFault (possible_refusal_by None grouped q)) o o' w
+  written_either assumed n grouped b is h = subst (λ (x : Bool). Writes (PossibleRowsBy x assumed n r q) (HasCauseFault (possible_refusal_by None x q)) o o' w) (sym is) h
+
+  rows_plain : (grouped : Bool) (text : List ℕ) (c : Option ListCounts) → PossibleRowsBy grouped None 0 r q text c → PossibleBy None grouped r q text c
+  rows_plain true text c h = h
+  rows_plain false text c h = h
+
+  -- of the runs, or not
+  pub written_plain : (asked : Option RunsWanted) (grouped : Bool) → asked ≡ None
+      → Writes (PossibleRowsBy grouped None 0 r q) (HasCauseFault (possible_refusal_by None grouped q)) o o' w
+      → Writes (PossibleBy asked grouped r q) (HasCauseFault (possible_refusal_by asked grouped q)) o o' w
+  written_plain asked grouped which h =
+      subst (λ (x : Option RunsWanted). Writes (PossibleBy x grouped r q) (HasCauseFault (possible_refusal_by x grouped q)) o o' w) (sym which)
+      (writes_as _ (PossibleBy None grouped r q) (HasCauseFault (possible_refusal_by None grouped q)) _ o o' w (rows_plain grouped) (λ f e. e) h)
+
+  pub written_runs : (asked : Option RunsWanted) (runs : RunsWanted) (grouped : Bool) → asked ≡ Some runs
+      → Writes (PossibleBy (Some runs) grouped r q) (HasCauseFault (possible_refusal_by (Some runs) grouped q)) o o' w
+      → Writes (PossibleBy asked grouped r q) (HasCauseFault (possible_refusal_by asked grouped q)) o o' w
+  written_runs asked runs grouped which h =
+      subst (λ (x : Option RunsWanted). Writes (PossibleBy x grouped r q) (HasCauseFault (possible_refusal_by x grouped q)) o o' w) (sym which) h
+
+  -- by what is assumed, or nothing is
+  pub written_by : (nothing b : Bool) → nothing ≡ b → Writes (AnyStateBy b r q) (AnyStateRefusal b r q) o o' w → Writes (AnyStateBy nothing r q) (AnyStateRefusal nothing r q) o o' w
+  written_by nothing b is h = subst (λ (x : Bool). Writes (AnyStateBy x r q) (AnyStateRefusal x r q) o o' w) (sym is) h
+
+  -- where something is assumed: of the runs nothing is written
+  pub assumed_runs : (asked : Option RunsWanted) (runs : RunsWanted) → asked ≡ Some runs → Writes (AssumedPossibleBy asked r q) (AssumedPossibleRefusal asked r q) o o (Err fault.Usage)
+  assumed_runs asked runs which = subst (λ (x : Option RunsWanted). Writes (AssumedPossibleBy x r q) (AssumedPossibleRefusal x r q) o o (Err fault.Usage)) (sym which) (inl (refl, refl {a = o}))
+
+  pub assumed_plain : (asked : Option RunsWanted) → asked ≡ None → Writes (AssumedPossibleBy None r q) (AssumedPossibleRefusal None r q) o o' w
+      → Writes (AssumedPossibleBy asked r q) (AssumedPossibleRefusal asked r q) o o' w
+  assumed_plain asked which h = subst (λ (x : Option RunsWanted). Writes (AssumedPossibleBy x r q) (AssumedPossibleRefusal x r q) o o' w) (sym which) h

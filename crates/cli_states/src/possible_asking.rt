@@ -1,6 +1,6 @@
 //! What a request for what some state, or every one, switches on asks.
 
-ghost use Rattle.std.specs.Prelude.{◌≡◌, IfErr, IfOk, None};
+ghost use Rattle.std.specs.Prelude.{◌≡◌, IfErr, IfOk, None, option_map};
 ghost use Rattle.causes_query.specs.Refusal.{reason, refusal};
 ghost use Rattle.scan_cycle.specs.Standing.{Fits};
 ghost use Rattle.cli_questions.specs.Query.{question_of};
@@ -16,6 +16,7 @@ use diagram_program::Program;
 use invariant_runs::staying_in_runs;
 use invariant_sets::{PAIR_SCANS, SCANS, Staying};
 use scan_cycle::{Memory, State};
+use st_expression::Expression;
 use std::alloc::Global;
 
 /// How many scans over three values a search for one row makes at most, where the request doesn't say it.
@@ -69,16 +70,17 @@ fn staying_of(
     Ok(Some(staying))
 }
 
-/// The rows of what is asked: of all states, or of those in which the coil is OFF; of some one, or of every one.
+/// The rows of what is asked: of all states, or of those in which the coil is OFF, with which what is assumed is true; of some one, or of every one.
 pub(crate) fn causes_of<'a>(
     alloc: Global,
     request: &PossibleRequest,
     off: bool,
     must: bool,
     asked: &'a ListQuery,
+    assumed: Option<&'a Expression>,
 ) -> Result<PossibleCauses<'a>, CauseFault>
     requires fits { Fits asked.now.program asked.now.state }
-    ensures cursor { IfOk result (λ c. AsksFor off must request.now (at_stored (question_of asked.now)) c) }
+    ensures cursor { IfOk result (λ c. AsksFor (option_map (λ e. e.now) assumed.entry) off must request.now (at_stored (question_of asked.now)) c) }
     ensures accepted { IfOk result (λ _. refusal (at_stored (question_of asked.now)) None ≡ None) }
     ensures refused { IfErr result (λ e. refusal (at_stored (question_of asked.now)) None ≡ reason e) }
 {
@@ -99,5 +101,5 @@ pub(crate) fn causes_of<'a>(
         claim: claim_of(must),
         looks: looks_of(request.looks),
     };
-    PossibleCauses::new(alloc, program, state, query)
+    PossibleCauses::assuming(alloc, program, state, query, assumed)
 }

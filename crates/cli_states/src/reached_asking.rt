@@ -41,7 +41,7 @@ pub(crate) fn run_causes_of<'a>(
     ensures accepted { IfOk result (λ _. refusal (at_stored (question_of asked.now)) None ≡ None) }
     ensures refused { IfErr result (λ e. refusal (at_stored (question_of asked.now)) None ≡ reason e) }
 {
-    let causes = causes_of(alloc, request, false, false, asked)?;
+    let causes = causes_of(alloc, request, false, false, asked, None)?;
     match RunCauses::new(alloc, &asked.state, causes, limits_of(states)) {
         Ok(causes) => Ok(causes),
         Err(_) => Err(CauseFault::Memory),

@@ -21,3 +21,7 @@ returns-in-Groups c =
 pub returns-in-Relevant : goal.returns-in-Relevant
 returns-in-Relevant c =
     rw c.in-Relevant.is (IfOk-weaker c.assume_first-in-Relevant.result _ _ (λ done h. (c.assume_first-in-Relevant.new.list, h, refl)) c.assume_first-in-Relevant.ensures)
+
+pub returns-in-Possible : goal.returns-in-Possible
+returns-in-Possible c =
+    rw c.in-Possible.is (IfOk-weaker c.assume_first_in_any.result _ _ (λ done h. (c.assume_first_in_any.new.possible, h, refl)) c.assume_first_in_any.ensures)

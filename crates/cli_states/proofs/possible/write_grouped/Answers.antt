@@ -1,4 +1,4 @@
-use Rattle.std.proofs.Common.{inl, inr, refl}
+use Rattle.std.proofs.Common.{inl, inr, length, refl}
 use Rattle.text_causes.specs.CauseText.{limited}
 use Rattle.text_lists.specs.ClassText.{possible_group_text}
 use Rattle.cli_inputs.proofs.Ends.{cause_fault}
@@ -17,7 +17,8 @@ returns-in-Ok-written g c =
     let q = at_stored (question_of c.args.asked.now) in
     let groups = c.in-Ok.groups in
     let made = c.in-Ok.ensures in
-    let w = c.in-Ok-written in (
+    let w = c.in-Ok-written in
+    let rows = limited r.limit groups.rest in (
       possible_group_text groups.program groups.listed (limited r.limit groups.rest),
       record {
         accepted = made.accepted;
@@ -26,7 +27,8 @@ returns-in-Ok-written g c =
         groups = groups.rest;
         are = made.rest.are;
         written = groups_text_is r q groups made.program made.listed;
-        count = group_counts_are r q groups made.program made.listed w.summary w.ensures.rows w.ensures.causes w.ensures.unsettled;
+        count = group_counts_are r q groups made.program made.listed c.args.expressions c.group_counts_of.result
+            (c.group_counts_of.ensures (length groups.listed) rows (w.ensures.rows, w.ensures.causes, w.ensures.unsettled));
       },
       w.ensures.bytes,
     )

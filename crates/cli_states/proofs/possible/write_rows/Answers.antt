@@ -1,5 +1,5 @@
 use Rattle.std.proofs.Common.{inl, inr, refl}
-use Rattle.std.specs.Prelude.{None}
+use Rattle.std.specs.Prelude.{None, option_map}
 use Rattle.causes_query.specs.Refusal.{refusal}
 use Rattle.text_lists.specs.PossibleText.{possible_text}
 use Rattle.cli_inputs.proofs.Ends.{cause_fault}
@@ -13,18 +13,20 @@ returns-in-Err g c = inl (cause_fault (refusal (at_stored (question_of c.args.as
 
 pub returns-in-Ok-written : goal.returns-in-Ok-written
 returns-in-Ok-written g c =
+    let assumed = option_map (λ e. e.now) c.args.assumed in
     let q = at_stored (question_of c.args.asked.now) in
     let causes = c.in-Ok.causes in
     let made = c.in-Ok.ensures in
-    let w = c.in-Ok-written in
-    let e = w.ensures in (
+    let e = c.in-Ok-written.ensures in (
       possible_text causes.program causes.listed e.0,
-      are_all c.args.request.now q causes c.write_possible_causes-written.new.causes e.0 made.accepted made.cursor e.1 e.2 w.summary e.4.0 e.4.1,
+      are_all assumed c.args.expressions c.args.request.now q causes c.write_possible_causes-written.new.causes e.0 made.accepted made.cursor e.1 e.2 c.counts_of.result
+          (c.counts_of.ensures e.0 e.4.0) e.4.1,
       e.3,
     )
 
 pub returns-in-Err-written : goal.returns-in-Err-written
 returns-in-Err-written g c =
+    let assumed = option_map (λ e. e.now) c.args.assumed in
     let q = at_stored (question_of c.args.asked.now) in
     let causes = c.in-Ok.causes in
     let made = c.in-Ok.ensures in
@@ -33,7 +35,7 @@ returns-in-Err-written g c =
       refl,
       (
         possible_text causes.program causes.listed e.0,
-        are_some c.args.request.now q causes c.write_possible_causes-written.new.causes e.0 made.accepted made.cursor e.1 e.2,
+        are_some assumed c.args.expressions c.args.request.now q causes c.write_possible_causes-written.new.causes e.0 made.accepted made.cursor e.1 e.2,
         e.3,
       ),
     )

@@ -4,7 +4,7 @@ use Rattle.causes_any_state.specs.declared.states.States.{States}
 use Rattle.cli_states.proofs.PossibleEnds.{states_of}
 use Rattle.cli_states.proofs.possible_asking.causes_of.Goals as goal
 
-pub new-requires : goal.new-requires
-new-requires c =
+pub assuming-requires : goal.assuming-requires
+assuming-requires c =
     let of = states_of c.args.request.now.reachable c.args.off c.args.asked.now.program c.args.asked.now.state c.in-Ok.staying c.in-Ok.ensures in
     record { states = subst (λ (x : States). AreStatesOf c.args.asked.now.program x) (sym c.counted-states.ensures) of }
