@@ -13,14 +13,14 @@ use Rattle.scan_held.specs.declared.scans.Scans.{Scans}
 use Rattle.search_differences.specs.declared.sought.Sought.TheVariants.{OldAlone, NewAlone}
 use Rattle.search_groups.specs.Groups.{Row}
 use Rattle.diff_causes.specs.Cursor.{DifferenceCursor}
-use Rattle.diff_causes.specs.Differences.{differences_after}
+use Rattle.diff_causes.specs.Assuming.{assumed_differences_after}
 use Rattle.diff_causes.specs.GroupCursor.{DifferenceGroupCursor, differences_in, group_rows_left}
 use Rattle.diff_causes.specs.Refused.{IsRefusedBy}
 use Rattle.diff_causes.specs.declared.fault.DifferenceFault.{DifferenceFault}
 use Rattle.diff_causes.specs.declared.fault.DifferenceFault.TheVariants as difference
 use Rattle.diff_causes.specs.declared.rows.Difference.{Difference}
 use Rattle.diff_held.specs.Cursor.{HeldDifferenceCursor}
-use Rattle.diff_held.specs.HeldDifferences.{held_differences}
+use Rattle.diff_held.specs.Assuming.{assumed_held_differences}
 use Rattle.diff_held.specs.Refused.{IsRefusedBy as IsHeldRefusedBy}
 use Rattle.diff_held.specs.declared.fault.HeldDifferenceFault.{HeldDifferenceFault}
 use Rattle.diff_held.specs.declared.fault.HeldDifferenceFault.TheVariants as held_difference
@@ -35,66 +35,66 @@ use Rattle.cli_arguments.specs.declared.request.DiffForm.TheVariants as form
 use Rattle.cli_arguments.specs.declared.request.GroupFormat.{GroupFormat}
 use Rattle.cli_arguments.specs.declared.request.Grouping.{Grouping}
 use Rattle.cli_questions.specs.Forms.{form_on}
-use Rattle.cli_questions.specs.declared.counting.ListCounts.TheVariants as counts
+use Rattle.cli_questions.specs.declared.counting.ListCounts.{ListCounts}
+use Rattle.cli_diff.specs.Assumed.{Assumption, assumed_alone, assumed_counts, assumed_held_for, assumed_text, differences_by, new_assumed_groups, old_assumed_groups, rows_by}
 use Rattle.cli_diff.specs.Faults.{IsFirstFault, IsRefusedOf, bound_refusal, cause_fault, held_fault, held_refused, refused, rows_refusal}
-use Rattle.cli_diff.specs.Listing.{differences_for, groups_alone, held_for, new_groups, old_groups}
 
 -- ---- rows
 
-module _ (limit after upto : Option ℕ) (q r : Question) (c : DifferenceCursor) (made : c.rest ≡ differences_after after q r) where
-  pub rows_are : c.asked_old ≡ q → difference_text c.asked_old.program c.asked_old.listed (limited limit (part upto c.rest))
-      ≡ difference_text q.program q.listed (differences_for limit after upto q r)
+module _ (a : Assumption) (limit after upto : Option ℕ) (q r : Question) (c : DifferenceCursor) (made : c.rest ≡ assumed_differences_after after a.old a.new q r) where
+  pub rows_are : c.asked_old ≡ q → difference_text c.asked_old.program c.asked_old.listed (limited limit (part upto c.rest)) ≡ assumed_text a limit after upto q r
   rows_are of_old =
       ap (λ (x : Question). difference_text x.program x.listed (limited limit (part upto c.rest))) of_old
       ∙ ap (λ (ds : List Difference). difference_text q.program q.listed (limited limit (part upto ds))) made
 
-  pub rows_counted : (n : ℕ) → n ≡ length (limited limit (part upto c.rest)) → counts.Rows n ≡ counts.Rows (length (differences_for limit after upto q r))
-  rows_counted n h = ap (λ (m : ℕ). counts.Rows m) (h ∙ ap (λ (ds : List Difference). length (limited limit (part upto ds))) made)
+  pub rows_counted : (counts : ListCounts) (n : ℕ) → counts ≡ rows_by a.expressions n → n ≡ length (limited limit (part upto c.rest)) → counts ≡ assumed_counts a limit after upto q r
+  rows_counted counts n by h = by ∙ ap (rows_by a.expressions) (h ∙ ap (λ (ds : List Difference). length (limited limit (part upto ds))) made)
 
 -- ---- rows over several scans
 
-module _ (limit : Option ℕ) (s : Scans) (a b q r : Question) (of_old : a ≡ q) (of_new : b ≡ r) (c : HeldDifferenceCursor) (made : c.rest ≡ held_differences a b s) where
-  rest_is : c.rest ≡ held_differences q r s
-  rest_is = made ∙ ap₂ (λ (x y : Question). held_differences x y s) of_old of_new
+module _ (a : Assumption) (limit : Option ℕ) (s : Scans) (x y q r : Question) (of_old : x ≡ q) (of_new : y ≡ r) (c : HeldDifferenceCursor)
+    (made : c.rest ≡ assumed_held_differences a.old a.new x y s) where
+  rest_is : c.rest ≡ assumed_held_differences a.old a.new q r s
+  rest_is = made ∙ ap₂ (λ (x y : Question). assumed_held_differences a.old a.new x y s) of_old of_new
 
-  pub held_rows_are : c.asked_old ≡ a → held_difference_text c.asked_old.program c.asked_old.listed (limited limit c.rest)
-      ≡ held_difference_text q.program q.listed (held_for limit s q r)
+  pub held_rows_are : c.asked_old ≡ x → held_difference_text c.asked_old.program c.asked_old.listed (limited limit c.rest)
+      ≡ held_difference_text q.program q.listed (assumed_held_for a limit s q r)
   held_rows_are asked =
       ap (λ (x : Question). held_difference_text x.program x.listed (limited limit c.rest)) (asked ∙ of_old)
       ∙ ap (λ (ds : List HeldDifference). held_difference_text q.program q.listed (limited limit ds)) rest_is
 
-  pub held_rows_counted : (n : ℕ) → n ≡ length (limited limit c.rest) → counts.Rows n ≡ counts.Rows (length (held_for limit s q r))
-  held_rows_counted n h = ap (λ (m : ℕ). counts.Rows m) (h ∙ ap (λ (ds : List HeldDifference). length (limited limit ds)) rest_is)
+  pub held_rows_counted : (counts : ListCounts) (n : ℕ) → counts ≡ rows_by a.expressions n → n ≡ length (limited limit c.rest)
+      → counts ≡ rows_by a.expressions (length (assumed_held_for a limit s q r))
+  held_rows_counted counts n by h = by ∙ ap (rows_by a.expressions) (h ∙ ap (λ (ds : List HeldDifference). length (limited limit ds)) rest_is)
 
 -- ---- groups
 
-summary_is : (rows differences m n : ℕ) → rows ≡ m → differences ≡ n → counts.Differences rows differences ≡ counts.Differences m n
-summary_is rows differences m n h l = ap (λ (x : ℕ). counts.Differences x differences) h ∙ ap (λ (x : ℕ). counts.Differences m x) l
+summary_is : (e rows differences m n : ℕ) → rows ≡ m → differences ≡ n → differences_by e rows differences ≡ differences_by e m n
+summary_is e rows differences m n h l = ap (λ (x : ℕ). differences_by e x differences) h ∙ ap (λ (x : ℕ). differences_by e m x) l
 
-module _ (limit : Option ℕ) (q r : Question) (c d : DifferenceGroupCursor) (old_rows : group_rows_left c ≡ groups_alone OldAlone q r)
-    (new_rows : group_rows_left d ≡ groups_alone NewAlone q r) where
-  old_are : old_rows_of limit c ≡ old_groups limit q r
+module _ (a : Assumption) (limit : Option ℕ) (q r : Question) (c d : DifferenceGroupCursor) (old_rows : group_rows_left c ≡ assumed_alone a OldAlone q r)
+    (new_rows : group_rows_left d ≡ assumed_alone a NewAlone q r) where
+  old_are : old_rows_of limit c ≡ old_assumed_groups a limit q r
   old_are = ap (λ (rs : List Row). limited limit rs) old_rows
 
-  new_are : new_rows_of limit c d ≡ new_groups limit q r
+  new_are : new_rows_of limit c d ≡ new_assumed_groups a limit q r
   new_are =
       ap (λ (rs : List Row). limited (limit_left limit (length (limited limit rs))) (group_rows_left d)) old_rows
-      ∙ ap (λ (rs : List Row). limited (limit_left limit (length (old_groups limit q r))) rs) new_rows
+      ∙ ap (λ (rs : List Row). limited (limit_left limit (length (old_assumed_groups a limit q r))) rs) new_rows
 
   pub groups_are : (form : GroupForm) (shape : GroupFormat) → form ≡ form_on shape q.coil → c.asked_old ≡ q
       → difference_group_text form c.asked_old.program c.asked_old.listed (old_rows_of limit c) (new_rows_of limit c d)
-      ≡ difference_group_text (form_on shape q.coil) q.program q.listed (old_groups limit q r) (new_groups limit q r)
+      ≡ difference_group_text (form_on shape q.coil) q.program q.listed (old_assumed_groups a limit q r) (new_assumed_groups a limit q r)
   groups_are form shape same of_old =
       ap (λ (f : GroupForm). difference_group_text f c.asked_old.program c.asked_old.listed (old_rows_of limit c) (new_rows_of limit c d)) same
       ∙ ap (λ (x : Question). difference_group_text (form_on shape q.coil) x.program x.listed (old_rows_of limit c) (new_rows_of limit c d)) of_old
       ∙ ap (λ (rs : List Row). difference_group_text (form_on shape q.coil) q.program q.listed rs (new_rows_of limit c d)) old_are
-      ∙ ap (λ (rs : List Row). difference_group_text (form_on shape q.coil) q.program q.listed (old_groups limit q r) rs) new_are
+      ∙ ap (λ (rs : List Row). difference_group_text (form_on shape q.coil) q.program q.listed (old_assumed_groups a limit q r) rs) new_are
 
-  pub groups_counted : (rows differences : ℕ) → rows ≡ length (old_rows_of limit c) + length (new_rows_of limit c d)
+  pub groups_counted : (counts : ListCounts) (rows differences : ℕ) → counts ≡ differences_by a.expressions rows differences → rows ≡ length (old_rows_of limit c) + length (new_rows_of limit c d)
       → differences ≡ differences_in (old_rows_of limit c) + differences_in (new_rows_of limit c d)
-      → counts.Differences rows differences
-      ≡ counts.Differences (length (old_groups limit q r) + length (new_groups limit q r)) (differences_in (old_groups limit q r) + differences_in (new_groups limit q r))
-  groups_counted rows differences h l = summary_is rows differences _ _
+      → counts ≡ differences_by a.expressions (length (old_assumed_groups a limit q r) + length (new_assumed_groups a limit q r)) (differences_in (old_assumed_groups a limit q r) + differences_in (new_assumed_groups a limit q r))
+  groups_counted counts rows differences by h l = by ∙ summary_is a.expressions rows differences _ _
       (h ∙ ap₂ (λ (xs ys : List Row). length xs + length ys) old_are new_are) (l ∙ ap₂ (λ (xs ys : List Row). differences_in xs + differences_in ys) old_are new_are)
 
 -- ---- refusals

@@ -16,7 +16,8 @@ use Rattle.cli_inputs.specs.declared.fault.ToolFault.{ToolFault}
 use Rattle.cli_questions.specs.declared.counting.ListCounts.{ListCounts}
 use Rattle.cli_diff.specs.Ending.{WritesOf}
 use Rattle.cli_diff.specs.Faults.{IsFirstFault, IsRefusedOf, cause_fault}
-use Rattle.cli_diff.specs.Listing.{DiffList, HasGroupText, new_ordered, old_ordered}
+use Rattle.cli_diff.specs.Assumed.{AssumedList, Assumption, HasAssumedGroupText}
+use Rattle.cli_diff.specs.Listing.{new_ordered, old_ordered}
 use Rattle.cli_diff.specs.Ordering.{ArePutInOrder}
 use Rattle.cli_diff.specs.declared.sided.SidedFault.{SidedFault}
 
@@ -33,14 +34,14 @@ sifted_in_order permuted any alike many old new old' new' same none of_old of_ne
 same_rule : (a b : Option CauseFault) → a ≡ b → option_map cause_fault a ≡ option_map cause_fault b
 same_rule a b h = ap (λ o. option_map cause_fault o) h
 
-module _ (g : Grouping) (limit : Option ℕ) (old new old' new' : Question) (order : ArePutInOrder g.order old new old' new') where
-  same_list : (text : List ℕ) (c : Option ListCounts) → DiffList (form.Groups (record { form = g.form; order = Given })) limit old' new' text c
-      → DiffList (form.Groups g) limit old new text c
+module _ (a : Assumption) (g : Grouping) (limit : Option ℕ) (old new old' new' : Question) (order : ArePutInOrder g.order old new old' new') where
+  same_list : (text : List ℕ) (c : Option ListCounts) → AssumedList a (form.Groups (record { form = g.form; order = Given })) limit old' new' text c
+      → AssumedList a (form.Groups g) limit old new text c
   same_list text c h = (
     same_rule _ _ (sym order.old_alike) ∙ h.0,
     same_rule _ _ (sym order.new_alike) ∙ h.1,
-    subst (λ (q : Question). HasGroupText g.form limit q (new_ordered g.order old new) text c) order.of_old
-        (subst (λ (q : Question). HasGroupText g.form limit old' q text c) order.of_new h.2),
+    subst (λ (q : Question). HasAssumedGroupText a g.form limit q (new_ordered g.order old new) text c) order.of_old
+        (subst (λ (q : Question). HasAssumedGroupText a g.form limit old' q text c) order.of_new h.2),
   )
 
   same_refusal : (side : Option Side) (f : ToolFault) → IsRefusedOf (form.Groups (record { form = g.form; order = Given })) old' new' side f
@@ -53,8 +54,8 @@ module _ (g : Grouping) (limit : Option ℕ) (old new old' new' : Question) (ord
   )
 
   pub listed_in_order : (o o' : WriteLog) (r : Result ListCounts SidedFault)
-      → WritesOf (DiffList (form.Groups (record { form = g.form; order = Given })) limit old' new') (IsRefusedOf (form.Groups (record { form = g.form; order = Given })) old' new') o o' r
-      → WritesOf (DiffList (form.Groups g) limit old new) (IsRefusedOf (form.Groups g) old new) o o' r
+      → WritesOf (AssumedList a (form.Groups (record { form = g.form; order = Given })) limit old' new') (IsRefusedOf (form.Groups (record { form = g.form; order = Given })) old' new') o o' r
+      → WritesOf (AssumedList a (form.Groups g) limit old new) (IsRefusedOf (form.Groups g) old new) o o' r
   listed_in_order o o' (Ok c) h = (h.0, same_list h.0 (Some c) h.1, h.2)
   listed_in_order o o' (Err e) (inl h) = inl (same_refusal e.side e.fault h.0, h.1)
   listed_in_order o o' (Err e) (inr h) = inr (h.0, (h.1.0, same_list h.1.0 None h.1.1, h.1.2))

@@ -1,4 +1,6 @@
 pub mod Asking
+pub mod Assumed
+pub mod AssumedEnding
 pub mod Faults
 pub mod Listing
 pub mod Ordering

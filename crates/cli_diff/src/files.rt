@@ -4,8 +4,8 @@ ghost use Rattle.std.specs.Prelude.{◌≡◌, ◌≤◌, ◌⊎◌, IfErr, IfOk
 ghost use Rattle.io_text.specs.Log.{WriteLog};
 ghost use Rattle.cli_inputs.specs.Reports.{logs, unread};
 ghost use Rattle.cli_inputs.specs.Setting.{Given, given_by};
-ghost use Rattle.cli_diff.specs.Ending.{BreaksDiff, CountsDiff, RefusesOf};
-ghost use Rattle.cli_diff.specs.Faults.{HasDiffFault};
+ghost use Rattle.cli_diff.specs.Ending.{RefusesOf};
+ghost use Rattle.cli_diff.specs.AssumedEnding.{BreaksAllDiff, CountsAllDiff, HasAllDiffFault};
 ghost use Rattle.cli_diff.specs.Files.{AreBothRead, IsSaidOf, StopsAtOne, diff_files};
 
 use crate::comparing::compare;
@@ -100,15 +100,15 @@ pub fn compare_files<R: Source, O: Sink, E: Sink>(
     ensures status { result ≤ 1 }
     ensures done { (save : WriteLog) → result ≡ 0 → (g h : Given) × IsSaidOf g request.now × IsSaidOf h request.now
         × AreBothRead (diff_files (R.log readers.old.old_program) (R.log readers.old.new_program) (option_map R.log readers.old.old_state) (option_map R.log readers.old.new_state)) g h
-        × CountsDiff g h request.now (logs (O.log out.old) save (E.log err.old)) (logs (O.log out.new) save (E.log err.new)) }
+        × CountsAllDiff g h request.now (logs (O.log out.old) save (E.log err.old)) (logs (O.log out.new) save (E.log err.new)) }
     ensures failed { (save : WriteLog) → result ≡ 1
         → RefusesOf (unread request.now.why) (unread request.now.why) (StopsAtOne (diff_files (R.log readers.old.old_program) (R.log readers.old.new_program) (option_map R.log readers.old.old_state) (option_map R.log readers.old.new_state))
         (diff_files (R.log readers.new.old_program) (R.log readers.new.new_program) (option_map R.log readers.new.old_state) (option_map R.log readers.new.new_state)))
         (logs (O.log out.old) save (E.log err.old)) (logs (O.log out.new) save (E.log err.new))
         ⊎ ((g h : Given) × IsSaidOf g request.now × IsSaidOf h request.now
         × AreBothRead (diff_files (R.log readers.old.old_program) (R.log readers.old.new_program) (option_map R.log readers.old.old_state) (option_map R.log readers.old.new_state)) g h
-        × (RefusesOf g h (HasDiffFault g h request.now) (logs (O.log out.old) save (E.log err.old)) (logs (O.log out.new) save (E.log err.new))
-        ⊎ BreaksDiff g h request.now (logs (O.log out.old) save (E.log err.old)) (logs (O.log out.new) save (E.log err.new)))) }
+        × (RefusesOf g h (HasAllDiffFault g h request.now) (logs (O.log out.old) save (E.log err.old)) (logs (O.log out.new) save (E.log err.new))
+        ⊎ BreaksAllDiff g h request.now (logs (O.log out.old) save (E.log err.old)) (logs (O.log out.new) save (E.log err.new)))) }
 {
     let manner = Manner {
         why: request.why,

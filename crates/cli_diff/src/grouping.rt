@@ -9,9 +9,10 @@ ghost use Rattle.cli_questions.specs.Query.{question_of};
 ghost use Rattle.diff_causes.specs.GroupCursor.{group_rows_left};
 ghost use Rattle.cli_diff.specs.Ending.{WritesOf};
 ghost use Rattle.cli_diff.specs.Faults.{IsRefusedOf};
-ghost use Rattle.cli_diff.specs.Listing.{DiffList, groups_alone};
+ghost use Rattle.cli_diff.specs.Assumed.{AssumedList, assumed_alone, assumption};
 ghost use Rattle.cli_diff.specs.Ordering.{ArePutInOrder};
 
+use crate::assuming::{Assuming, differences_by};
 use crate::listing::program_query;
 use crate::sided::{SidedFault, refused, unwritten};
 use causes_one_scan::laws::orders;
@@ -68,26 +69,27 @@ fn put_in_order(
     }
 }
 
-/// The groups of the combinations that are sought.
+/// The groups of the combinations that are sought, of those with which what is assumed is true in both programs.
 fn groups_of<'a>(
     alloc: Global,
     sought: Sought,
     of_old: &'a ListQuery,
     of_new: &'a ListQuery,
+    assumed: Assuming<'a>,
 ) -> Result<DifferenceGroups<'a>, SidedFault>
     requires old { Fits of_old.now.program of_old.now.state }
     requires new { Fits of_new.now.program of_new.now.state }
     requires same { length of_old.now.inputs.items ≡ length of_new.now.inputs.items }
     ensures old { IfOk result (λ c. c.asked_old ≡ question_of of_old.now) }
     ensures sought { IfOk result (λ c. c.sought ≡ sought) }
-    ensures rows { IfOk result (λ c. group_rows_left c ≡ groups_alone sought (question_of of_old.now) (question_of of_new.now)) }
+    ensures rows { IfOk result (λ c. group_rows_left c ≡ assumed_alone (assumption assumed.entry) sought (question_of of_old.now) (question_of of_new.now)) }
     ensures old_accepted { IfOk result (λ _. refusal (question_of of_old.now) None ≡ None) }
     ensures new_accepted { IfOk result (λ _. refusal (question_of of_new.now) None ≡ None) }
     ensures refused { (g : Grouping) → IfErr result (λ e. IsRefusedOf (form.Groups g) (question_of of_old.now) (question_of of_new.now) e.side e.fault) }
 {
     let old = program_query(of_old);
     let new = program_query(of_new);
-    match DifferenceGroups::new(alloc, sought, old, new) {
+    match DifferenceGroups::assuming(alloc, sought, old, new, assumed.old, assumed.new) {
         Ok(groups) => Ok(groups),
         Err(fault) => Err(refused(fault)),
     }
@@ -100,19 +102,20 @@ fn write_as_listed<O: Sink>(
     limit: Option<u64>,
     of_old: &ListQuery,
     of_new: &ListQuery,
+    assumed: Assuming<'_>,
     out: &mut O,
 ) -> Result<ListCounts, SidedFault>
     requires old { Fits of_old.now.program of_old.now.state }
     requires new { Fits of_new.now.program of_new.now.state }
     requires same { length of_old.now.inputs.items ≡ length of_new.now.inputs.items }
-    ensures { WritesOf (DiffList (form.Groups (record { form = shape; order = Given })) limit (question_of of_old.now) (question_of of_new.now))
+    ensures { WritesOf (AssumedList (assumption assumed.entry) (form.Groups (record { form = shape; order = Given })) limit (question_of of_old.now) (question_of of_new.now))
         (IsRefusedOf (form.Groups (record { form = shape; order = Given })) (question_of of_old.now) (question_of of_new.now)) (O.log out.old) (O.log out.new) result }
 {
-    let mut old = match groups_of(alloc, Sought::OldAlone, of_old, of_new) {
+    let mut old = match groups_of(alloc, Sought::OldAlone, of_old, of_new, assumed) {
         Ok(groups) => groups,
         Err(fault) => return Err(fault),
     };
-    let mut new = match groups_of(alloc, Sought::NewAlone, of_old, of_new) {
+    let mut new = match groups_of(alloc, Sought::NewAlone, of_old, of_new, assumed) {
         Ok(groups) => groups,
         Err(fault) => {
             drop(old);
@@ -124,10 +127,7 @@ fn write_as_listed<O: Sink>(
     drop(new);
     drop(old);
     match written {
-        Ok(summary) => Ok(ListCounts::Differences {
-            rows: summary.rows,
-            differences: summary.differences,
-        }),
+        Ok(summary) => Ok(differences_by(assumed.expressions, summary.rows, summary.differences)),
         Err(_) => Err(unwritten()),
     }
 }
@@ -139,17 +139,26 @@ pub(crate) fn write_groups<O: Sink>(
     limit: Option<u64>,
     of_old: &mut ListQuery,
     of_new: &mut ListQuery,
+    assumed: Assuming<'_>,
     out: &mut O,
 ) -> Result<ListCounts, SidedFault>
     requires old { Fits of_old.old.program of_old.old.state }
     requires new { Fits of_new.old.program of_new.old.state }
     requires same { length of_old.old.inputs.items ≡ length of_new.old.inputs.items }
-    ensures { WritesOf (DiffList (form.Groups grouping) limit (question_of of_old.old) (question_of of_new.old))
+    ensures { WritesOf (AssumedList (assumption assumed.entry) (form.Groups grouping) limit (question_of of_old.old) (question_of of_new.old))
         (IsRefusedOf (form.Groups grouping) (question_of of_old.old) (question_of of_new.old)) (O.log out.old) (O.log out.new) result }
 {
     match put_in_order(alloc, grouping.order, of_old, of_new) {
         Ok(()) => (),
         Err(fault) => return Err(fault),
     }
-    write_as_listed(alloc, grouping.form, limit, &*of_old, &*of_new, out)
+    write_as_listed(
+        alloc,
+        grouping.form,
+        limit,
+        &*of_old,
+        &*of_new,
+        assumed,
+        out,
+    )
 }

@@ -2,11 +2,13 @@
 #![tactic(auto)]
 
 mod asking;
+mod assuming;
 mod comparing;
 mod files;
 mod grouping;
 mod holding;
 mod listing;
+mod possible;
 mod sided;
 mod telling;
 mod texts;

@@ -7,17 +7,19 @@ ghost use Rattle.cli_arguments.specs.declared.request.DiffForm.TheVariants as fo
 ghost use Rattle.cli_inputs.specs.Reports.{IsReported, logs};
 ghost use Rattle.cli_inputs.specs.Setting.{given_by};
 ghost use Rattle.cli_questions.specs.Query.{question_of};
-ghost use Rattle.cli_diff.specs.Asking.{AreAsked};
-ghost use Rattle.cli_diff.specs.Ending.{BreaksRows, IsUntold, RefusesOf, TellsRows};
-ghost use Rattle.cli_diff.specs.Faults.{HasDiffFault};
+ghost use Rattle.cli_diff.specs.Assumed.{assumption};
+ghost use Rattle.cli_diff.specs.AssumedEnding.{BreaksOffAssumed, CountsAssumed};
+ghost use Rattle.cli_diff.specs.Ending.{IsUntold, RefusesOf};
+ghost use Rattle.cli_diff.specs.Faults.{IsRefusedOf};
 
 use crate::asking::DiffQuery;
+use crate::assuming::{Assuming, rows_by};
 use crate::listing::{Bounds, differences_of};
 use crate::sided::{report, unwritten};
 use crate::texts::DiffTexts;
 use cli_arguments::{DiffForm, DiffRequest};
 use cli_inputs::ToolFault;
-use cli_questions::{ListCounts, put_counts};
+use cli_questions::put_counts;
 use io_text::Sink;
 use std::alloc::Global;
 use text_causes::ProgressFault;
@@ -49,11 +51,18 @@ fn end_at<E: Sink>(texts: &DiffTexts, fault: ProgressFault, err: &mut E) -> u8
     }
 }
 
-/// Writes the rows of what is asked, and tells how far the list is.
+/// What is listed: the rows of a request after a number and up to another, where there are such, with what is assumed.
+#[derive(Clone, Copy)]
+pub(crate) struct ToldRows<'a> {
+    pub request: &'a DiffRequest,
+    pub bounds: Bounds,
+    pub assumed: Assuming<'a>,
+}
+
+/// Writes the rows of what is asked and assumed, and tells how far the list is.
 pub(crate) fn tell_asked<O: Sink, E: Sink>(
     alloc: Global,
-    request: &DiffRequest,
-    bounds: Bounds,
+    rows: ToldRows<'_>,
     asked: &DiffQuery,
     texts: &DiffTexts,
     out: &mut O,
@@ -62,16 +71,22 @@ pub(crate) fn tell_asked<O: Sink, E: Sink>(
     requires old { Fits asked.now.of_old.program asked.now.of_old.state }
     requires new { Fits asked.now.of_new.program asked.now.of_new.state }
     requires same { length asked.now.of_old.inputs.items ≡ length asked.now.of_new.inputs.items }
-    requires asked { AreAsked (given_by texts.now.old) (given_by texts.now.new) request.now (question_of asked.now.of_old) (question_of asked.now.of_new) }
-    requires form { request.now.form ≡ form.Progress bounds.after bounds.upto }
     ensures status { result ≤ 1 }
     ensures done { (save : WriteLog) → result ≡ 0
-        → TellsRows (given_by texts.now.old) (given_by texts.now.new) request.now bounds.after bounds.upto (logs (O.log out.old) save (E.log err.old)) (logs (O.log out.new) save (E.log err.new)) }
+        → CountsAssumed (form.Progress rows.entry.bounds.after rows.entry.bounds.upto) (assumption rows.entry.assumed) rows.entry.request.now (question_of asked.now.of_old) (question_of asked.now.of_new)
+        (logs (O.log out.old) save (E.log err.old)) (logs (O.log out.new) save (E.log err.new)) }
     ensures failed { (save : WriteLog) → result ≡ 1
-        → RefusesOf (given_by texts.now.old) (given_by texts.now.new) (HasDiffFault (given_by texts.now.old) (given_by texts.now.new) request.now) (logs (O.log out.old) save (E.log err.old)) (logs (O.log out.new) save (E.log err.new))
-        ⊎ BreaksRows (given_by texts.now.old) (given_by texts.now.new) request.now bounds.after bounds.upto (logs (O.log out.old) save (E.log err.old)) (logs (O.log out.new) save (E.log err.new)) }
+        → RefusesOf (given_by texts.now.old) (given_by texts.now.new) (IsRefusedOf (form.Progress rows.entry.bounds.after rows.entry.bounds.upto) (question_of asked.now.of_old) (question_of asked.now.of_new))
+        (logs (O.log out.old) save (E.log err.old)) (logs (O.log out.new) save (E.log err.new))
+        ⊎ BreaksOffAssumed (form.Progress rows.entry.bounds.after rows.entry.bounds.upto) (given_by texts.now.old) (assumption rows.entry.assumed) rows.entry.request.now (question_of asked.now.of_old) (question_of asked.now.of_new)
+        (logs (O.log out.old) save (E.log err.old)) (logs (O.log out.new) save (E.log err.new)) }
 {
-    let mut differences = match differences_of(alloc, bounds, asked) {
+    let ToldRows {
+        request,
+        bounds,
+        assumed,
+    } = rows;
+    let mut differences = match differences_of(alloc, bounds, asked, assumed) {
         Ok(differences) => differences,
         Err(fault) => return report(texts, fault, err),
     };
@@ -81,7 +96,7 @@ pub(crate) fn tell_asked<O: Sink, E: Sink>(
         Ok(rows) => rows,
         Err(fault) => return end_at(texts, fault, err),
     };
-    let Ok(()) = put_counts(request.quiet, ListCounts::Rows(rows), err) else {
+    let Ok(()) = put_counts(request.quiet, rows_by(assumed.expressions, rows), err) else {
         return 1;
     };
     0

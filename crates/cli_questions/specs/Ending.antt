@@ -36,6 +36,8 @@ counts_line (counts.AssumedCauses s assumed) = codes "rows " ++ (decimal s.rows 
 counts_line (counts.AssumedGroups s assumed) = codes "rows " ++ (decimal s.rows ++ (codes " causes " ++ (decimal s.causes ++ assumed_end assumed)))
 counts_line (counts.Possible rows unsettled) = codes "rows " ++ (decimal rows ++ (codes " unsettled " ++ (decimal unsettled ++ codes "\n")))
 counts_line (counts.Differences rows differences) = codes "rows " ++ (decimal rows ++ (codes " differences " ++ (decimal differences ++ codes "\n")))
+counts_line (counts.AssumedDifferences rows differences assumed) =
+    codes "rows " ++ (decimal rows ++ (codes " differences " ++ (decimal differences ++ assumed_end assumed)))
 counts_line (counts.Verdicts same differs unsettled is_equivalent) =
     codes "same " ++ (decimal same ++ (codes " differs " ++ (decimal differs ++ (codes " unsettled " ++ (decimal unsettled ++ (codes "\n" ++ equivalence_line is_equivalent))))))
 counts_line (counts.PossibleGroups rows causes unsettled) =

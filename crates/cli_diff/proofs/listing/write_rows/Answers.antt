@@ -2,6 +2,7 @@ use Rattle.std.proofs.Common.{inl, inr, refl}
 use Rattle.text_causes.specs.CauseText.{limited}
 use Rattle.text_differences.specs.DifferenceText.{difference_text, part}
 use Rattle.cli_questions.specs.Query.{question_of}
+use Rattle.cli_diff.specs.Assumed.{assumption}
 use Rattle.cli_diff.proofs.Forms.{rows_are, rows_counted}
 use Rattle.cli_diff.proofs.listing.write_rows.Goals as goal
 
@@ -21,8 +22,8 @@ returns-in-Ok-written g c =
         made.old_accepted,
         made.new_accepted,
         (
-          rows_are c.args.limit b.after b.upto old new d made.rest made.old,
-          rows_counted c.args.limit b.after b.upto old new d made.rest w.rows w.ensures.rows,
+          rows_are (assumption c.args.assumed) c.args.limit b.after b.upto old new d made.rest made.old,
+          rows_counted (assumption c.args.assumed) c.args.limit b.after b.upto old new d made.rest _ w.rows c.rows_by.ensures w.ensures.rows,
         ),
       ),
       w.ensures.bytes,
@@ -39,7 +40,7 @@ returns-in-Err-written g c =
       c.unwritten.ensures,
       (
         difference_text d.asked_old.program d.asked_old.listed (limited c.args.limit (part b.upto d.rest)),
-        (made.old_accepted, made.new_accepted, (rows_are c.args.limit b.after b.upto old new d made.rest made.old, tt)),
+        (made.old_accepted, made.new_accepted, (rows_are (assumption c.args.assumed) c.args.limit b.after b.upto old new d made.rest made.old, tt)),
         c.in-Err-written.ensures.bytes,
       ),
     )
