@@ -1,5 +1,5 @@
 -- What is possible, asked of the runs from one state: what a row says of its number, and that no run comes to a number without one.
-use Rattle.std.specs.Prelude.{◌≡◌, ℕ, Bool, ◌+◌, ◌<◌, ◌≤◌, ◌^◌, true, List, [], ◌∷◌, length, map, slice_index_or}
+use Rattle.std.specs.Prelude.{◌≡◌, ℕ, Bool, ◌+◌, ◌<◌, ◌≤◌, ◌^◌, true, List, [], ◌∷◌, None, length, map, slice_index_or}
 use Rattle.std.specs.List.{range_with_len}
 use Rattle.diagram_declarations.specs.declared.decls.Symbol.TheVariants as symbol
 use Rattle.diagram_program.specs.Program.{Drawing}
@@ -41,6 +41,7 @@ row_question p s coil listed n = record {
   timing = AnyMoments;
   listed = input_variables (diagram_of p).inputs;
   target = row_target coil listed n;
+  assumed = None;
 }
 
 -- A run comes to the number.

@@ -3,18 +3,21 @@ use Rattle.std.specs.Prelude.{◌≡◌, ◌⊎◌, ℕ, Bool, true, false, not,
 use Rattle.std.specs.List.{list_all}
 use Rattle.diagram_declarations.specs.declared.decls.Symbol.{Symbol}
 use Rattle.diagram_declarations.specs.declared.decls.Symbol.TheVariants as symbol
-use Rattle.diagram_declarations.specs.Decls.{is_input}
+use Rattle.diagram_declarations.specs.Decls.{Declared, is_input}
 use Rattle.diagram_program.specs.Program.{Drawing, has_coil}
 use Rattle.scan_cycle.specs.Standing.{Standing}
+use Rattle.assume_reading.specs.Several.{AreAssumptions}
 use Rattle.causes_query.specs.Refusal.{has_repetition}
 use Rattle.causes_query.specs.declared.fault.CauseFault.{CauseFault}
 use Rattle.causes_query.specs.declared.fault.CauseFault.TheVariants.{MomentBack, NotACoil, NotAnInput, RepeatedInput}
 use Rattle.reach_runs.specs.Asking.{RunQuestion}
+use Rattle.reach_runs.specs.declared.target.Literal.{Literal}
 use Rattle.reach_runs.specs.declared.timing.Timing.{Timing}
 use Rattle.reach_runs.specs.declared.timing.Timing.TheVariants as timing
 use Rattle.cli_arguments.specs.declared.request.Pace.{Pace}
 use Rattle.cli_arguments.specs.declared.request.Pace.TheVariants as pace
 use Rattle.cli_arguments.specs.declared.request.ReachRequest.{ReachRequest}
+use Rattle.cli_assumed.specs.Assumed.{HasAssumptionFault}
 use Rattle.cli_inputs.specs.Reports.{HasCauseFault}
 use Rattle.cli_inputs.specs.Setting.{Given, HasSettingFault, IsSet}
 use Rattle.cli_inputs.specs.Variables.{AreListed}
@@ -44,16 +47,18 @@ question_of a = record {
   timing = a.timing;
   listed = a.inputs.items;
   target = a.target.items;
+  assumed = a.assumed;
 }
 
 -- The program and the state are those of the texts. The scans are from the moment on that is given, or else from the stored one. The inputs
--- change that are named, or all where none is.
+-- change that are named, or all where none is. What each expression says is assumed of the inputs of each scan.
 pub record IsAskedBy (g : Given) (r : ReachRequest) (q : RunQuestion) : Type 0 where
   pub set : IsSet g q.program q.state
   pub from : q.from ≡ unwrap_or r.moment q.state.moment
   pub timing : q.timing ≡ timing_of r.pace
   pub target : IsTarget q.program.decls r q.target
   pub listed : AreListed q.program.decls (is_empty r.inputs.items) (map string_bytes r.inputs.items) q.listed
+  pub assumed : AreAssumptions q.program.decls (map string_bytes r.assumed.items) q.assumed
 
 -- ---- refusals
 
@@ -78,9 +83,17 @@ is_broken q other = false
 abbrev pub refusal : RunQuestion → Option CauseFault
 refusal q = find (is_broken q) (MomentBack ∷ NotACoil ∷ NotAnInput ∷ RepeatedInput ∷ [])
 
--- A fault of the texts, of the names, or of what is asked; or being out of memory.
+-- Each name is of something.
+pub record AreNamed (decls : Declared) (r : ReachRequest) : Type 0 where
+  pub target : List Literal
+  pub is : IsTarget decls r target
+  pub inputs : List ℕ
+  pub listed : AreListed decls (is_empty r.inputs.items) (map string_bytes r.inputs.items) inputs
+
+-- A fault of the texts, of the names, or else of an expression, or of what is asked; or being out of memory.
 abbrev pub HasReachFault : Given → ReachRequest → ToolFault → Type 0
 HasReachFault g r f = HasSettingFault g f
     ⊎ ((p : Drawing) × (s : Standing) × IsSet g p s × HasNameFault p.decls r f)
+    ⊎ ((p : Drawing) × (s : Standing) × IsSet g p s × AreNamed p.decls r × HasAssumptionFault p.decls (map string_bytes r.assumed.items) f)
     ⊎ ((q : RunQuestion) × IsAskedBy g r q × HasCauseFault (refusal q) f)
     ⊎ (f ≡ fault.Memory)

@@ -59,9 +59,14 @@ found_words Never = codes "none"
 found_words (NotIn scans) = codes "none scans " ++ decimal scans
 found_words (Unsettled scans) = codes "unsettled scans " ++ decimal scans
 
-abbrev pub states_words : ℕ → List ℕ
-states_words states = codes " states " ++ (decimal states ++ codes "\n")
+-- where something is assumed, of how many expressions it is
+abbrev pub assumed_words : ℕ → List ℕ
+assumed_words zero = []
+assumed_words (suc more) = codes " assumed " ++ decimal (suc more)
 
--- `run scans N states M`, `none states M`, `none scans N states M`, `unsettled scans N states M`
-abbrev pub found_line : Found → ℕ → List ℕ
-found_line found states = found_words found ++ states_words states
+abbrev pub states_words : (states assumed : ℕ) → List ℕ
+states_words states assumed = codes " states " ++ (decimal states ++ (assumed_words assumed ++ codes "\n"))
+
+-- `run scans N states M`, `none states M`, `none scans N states M`, `unsettled scans N states M`; where something is assumed, `assumed A` behind it
+abbrev pub found_line : Found → (states assumed : ℕ) → List ℕ
+found_line found states assumed = found_words found ++ states_words states assumed

@@ -1,5 +1,5 @@
 -- How a request for a run ends.
-use Rattle.std.specs.Prelude.{◌≡◌, ◌⊎◌, ◌++◌, ℕ, true, List, None}
+use Rattle.std.specs.Prelude.{◌≡◌, ◌⊎◌, ◌++◌, ℕ, true, List, None, length}
 use Rattle.io_text.specs.Log.{PutsAll, PutsPrefix, WriteLog}
 use Rattle.reach_runs.specs.Asking.{RunQuestion}
 use Rattle.cli_arguments.specs.declared.request.ReachRequest.{ReachRequest}
@@ -24,14 +24,14 @@ pub record WritesFound (r : ReachRequest) (q : RunQuestion) (found : Found) (Wri
   pub written : Written text
 
 -- Lines tell how far the search is, where that is asked for; the text of what is found is written; and then its line is: whole, or as far as
--- `Told` says. It tells how many states were kept.
+-- `Told` says. It tells how many states were kept, and how many expressions were assumed.
 pub record TellsFound (g : Given) (r : ReachRequest) (out out' : WriteLog) (Told : List ℕ → Type 0) : Type 0 where
   pub question : RunQuestion
   pub right : IsRight g r question
   pub found : Found
   pub states : ℕ
   pub writes : WritesFound r question found (PutsAll out out')
-  pub told : TellsSteps r.progress question (λ lines. Told (lines ++ found_line found states))
+  pub told : TellsSteps r.progress question (λ lines. Told (lines ++ found_line found states (length r.assumed.items)))
 
 -- Lines tell how far the search is, where that is asked for, and then what is said of a fault is written.
 pub record TellsFault (g : Given) (r : ReachRequest) (q : RunQuestion) (err err' : WriteLog) (f : ToolFault) : Type 0 where

@@ -8,13 +8,16 @@ ghost use Rattle.cli_reach.specs.Asking.{HasReachFault, IsAskedBy, question_of, 
 
 use crate::naming::{inputs_of, target_of};
 use cli_arguments::{Pace, ReachRequest};
+use cli_assumed::read_assumed;
 use cli_inputs::{Setting, Texts, ToolFault, moment, read_setting};
 use diagram_program::Program;
 use reach_runs::{Literal, RunQuery, Timing};
 use scan_cycle::State;
+use st_expression::Expression;
 use std::alloc::Global;
 
-/// What is asked: of which program in which state, from which moment on, when the scans are, which inputs change and what is to be ON.
+/// What is asked: of which program in which state, from which moment on, when the scans are, which inputs change, what is to be ON, and what is
+/// assumed of the inputs of each scan.
 #[derive(Drop)]
 pub(crate) struct Asked {
     pub program: Program,
@@ -23,6 +26,7 @@ pub(crate) struct Asked {
     pub timing: Timing,
     pub inputs: Vec<usize>,
     pub target: Vec<Literal>,
+    pub assumed: Option<Expression>,
 }
 
 impl Asked {
@@ -37,6 +41,7 @@ impl Asked {
             timing: self.timing,
             listed: &self.inputs,
             target: &self.target,
+            assumed: self.assumed.as_ref(),
         }
     }
 }
@@ -51,11 +56,11 @@ fn timing_of(pace: Pace) -> Timing
     }
 }
 
-/// Reads the texts and the names of a request.
+/// Reads the texts, the names and the expressions of a request.
 ///
 /// # Errors
 ///
-/// A fault of the program text or of the state text, or else of a name.
+/// A fault of the program text or of the state text, or else of a name, or else of an expression.
 pub(crate) fn read_asked(
     alloc: Global,
     request: &ReachRequest,
@@ -73,8 +78,12 @@ pub(crate) fn read_asked(
         Ok(target) => target,
         Err(fault) => return Err(fault),
     };
-    match inputs_of(alloc, program.decls(), request) {
-        Ok(inputs) => {
+    let inputs = match inputs_of(alloc, program.decls(), request) {
+        Ok(inputs) => inputs,
+        Err(fault) => return Err(fault),
+    };
+    match read_assumed(alloc, &program, &request.assumed) {
+        Ok(assumed) => {
             let from = moment(request.moment, state.moment());
             Ok(Asked {
                 program,
@@ -83,6 +92,7 @@ pub(crate) fn read_asked(
                 timing: timing_of(request.pace),
                 inputs,
                 target,
+                assumed,
             })
         }
         Err(fault) => Err(fault),

@@ -77,7 +77,8 @@ fn reach_asked<O: Sink, E: Sink>(
     let Ok(()) = write_verdict(asked.timing, &asked.program, &sought.verdict, out) else {
         return report(texts, &ToolFault::Write, err);
     };
-    let Ok(()) = put_found(found, sought.states as u64, err) else {
+    let assumed = request.assumed.len() as u64;
+    let Ok(()) = put_found(found, sought.states as u64, assumed, err) else {
         return 1;
     };
     0

@@ -62,13 +62,23 @@ fn put_words<E: Sink>(found: Found, err: &mut E) -> Result<(), WriteFault>
     }
 }
 
-/// Writes the number of states, and the end of the line.
-fn put_states<E: Sink>(states: u64, err: &mut E) -> Result<(), WriteFault>
-    ensures { Puts (E.log err.old) (E.log err.new) result (states_words states) }
+/// Writes the number of states and, where something is assumed, that of its expressions, and the end of the line.
+fn put_states<E: Sink>(states: u64, assumed: u64, err: &mut E) -> Result<(), WriteFault>
+    ensures { Puts (E.log err.old) (E.log err.new) result (states_words states assumed) }
 {
+    if assumed == 0 {
+        let pieces = [
+            Piece::Text(b" states "),
+            Piece::Number(states),
+            Piece::Text(b"\n"),
+        ];
+        return put_pieces(err, pieces.as_slice());
+    }
     let pieces = [
         Piece::Text(b" states "),
         Piece::Number(states),
+        Piece::Text(b" assumed "),
+        Piece::Number(assumed),
         Piece::Text(b"\n"),
     ];
     put_pieces(err, pieces.as_slice())
@@ -88,10 +98,15 @@ pub(crate) fn put_step<E: Sink>(states: u64, scans: u64, err: &mut E) -> Result<
     put_pieces(err, pieces.as_slice())
 }
 
-/// Writes what was found, and how many states the search kept.
-pub(crate) fn put_found<E: Sink>(found: Found, states: u64, err: &mut E) -> Result<(), WriteFault>
-    ensures { Puts (E.log err.old) (E.log err.new) result (found_line found states) }
+/// Writes what was found, how many states the search kept, and how many expressions were assumed.
+pub(crate) fn put_found<E: Sink>(
+    found: Found,
+    states: u64,
+    assumed: u64,
+    err: &mut E,
+) -> Result<(), WriteFault>
+    ensures { Puts (E.log err.old) (E.log err.new) result (found_line found states assumed) }
 {
     put_words(found, err)?;
-    put_states(states, err)
+    put_states(states, assumed, err)
 }

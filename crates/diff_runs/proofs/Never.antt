@@ -29,6 +29,7 @@ gives : (b : Drawing) (there : TwoSymbols) (value : Bool) (f : ℕ → Bool) →
 gives b there value f = record {
   all = length-map (inputs_of b) f;
   stored = λ var other. others_keep (diagram_of b).inputs (map f (inputs_of b)) (fresh b).held.values var (no_input b var other);
+  allowed = refl;
 }
 
 all_given : (of_old of_new : Matching) (p q b : Drawing) (there : TwoSymbols) (value : Bool) (scans : List TwoScans) (s t : Standing)

@@ -1,5 +1,5 @@
 -- What is asked of a program in which two stand side by side.
-use Rattle.std.specs.Prelude.{◌∷◌, Bool, [], not}
+use Rattle.std.specs.Prelude.{◌∷◌, Bool, [], None, not}
 use Rattle.diagram_program.specs.Program.{Drawing}
 use Rattle.scan_cycle.specs.Programs.{diagram_of}
 use Rattle.scan_cycle.specs.Standing.{fresh}
@@ -24,4 +24,5 @@ question b there value = record {
   timing = AnyMoments;
   listed = input_variables (diagram_of b).inputs;
   target = record { symbol = there.old; value = value } ∷ record { symbol = there.new; value = not value } ∷ [];
+  assumed = None;
 }

@@ -46,6 +46,7 @@ fn seek_value(
         timing: Timing::AnyMoments,
         listed: &prepared.inputs,
         target: &target,
+        assumed: None,
     };
     seek(alloc, query, limits)
 }

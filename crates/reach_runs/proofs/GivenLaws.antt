@@ -1,5 +1,5 @@
 -- Which of the values that a scan gives an input has, and what the variables keep.
-use Rattle.std.proofs.Common.{◌≡◌, ◌∙◌, ℕ, ◌+◌, ◌<◌, ◌≤◌, Bool, true, false, List, [], ◌∷◌, ◌++◌, length, refl, sym, ap, zero, suc, add-one, arith, slice_index_or, map, inl, inr}
+use Rattle.std.proofs.Common.{◌≡◌, ◌∙◌, ℕ, ◌+◌, ◌<◌, ◌≤◌, Bool, true, false, List, [], ◌∷◌, ◌++◌, length, refl, sym, ap, zero, suc, add-one, arith, slice_index_or, map, inl, inr, None}
 use Rattle.std.specs.Prelude.{Contains, filter}
 use Rattle.std.specs.List.{range_with_len}
 use Rattle.std.proofs.lemmas.Bool.{cases_Bool, cases_lt}
@@ -121,12 +121,16 @@ past_is_off [] i h = refl
 past_is_off (f ∷ flags) zero h = absurd (omega (arith, h))
 past_is_off (f ∷ flags) (suc i) h = past_is_off flags i (omega (arith, h))
 
+-- the same question, with nothing assumed
+abbrev pub unassumed : RunQuestion → RunQuestion
+unassumed q = record q { assumed = None }
+
 module _ (q : RunQuestion) (inputs : List Bool) (vars : List Var) (same : vars ≡ q.program.decls.vars) where
   -- as many values are given as there are inputs, and what isn't listed keeps its value up to the last variable
   pub all_keep : length inputs ≡ rank (map is_input vars) (length vars)
       → ((v : ℕ) → v < length vars → (Contains q.listed v → ⊥)
       → slice_index_or (given (map is_input vars) inputs q.state.held.values) v false ≡ slice_index_or q.state.held.values v false)
-      → Gives q inputs
+      → Gives (unassumed q) inputs
   unfolding diagram_of
   all_keep count kept = record {
     all = count ∙ sym (all_counted vars) ∙ ap (λ (vs : List Var). length (input_variables (map is_input vs))) same;
@@ -136,6 +140,7 @@ module _ (q : RunQuestion) (inputs : List Bool) (vars : List Var) (same : vars �
           | inl less ↦ kept v less other
           | inr past ↦ others_keep (map is_input vars) inputs q.state.held.values v (past_is_off (map is_input vars) v (omega (arith, past, length-map vars is_input)))
         ];
+    allowed = refl;
   }
 
   -- and so it is where a scan gives what it may

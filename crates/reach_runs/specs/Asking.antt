@@ -1,5 +1,5 @@
 -- What is asked of the runs from a state: whether one switches something on.
-use Rattle.std.specs.Prelude.{◌≡◌, ℕ, ◌+◌, ◌<◌, ◌≤◌, Bool, true, false, List, [], ◌∷◌, All, Contains, if◌then◌else◌, length, not, slice_index_or, take}
+use Rattle.std.specs.Prelude.{◌≡◌, ℕ, ◌+◌, ◌<◌, ◌≤◌, Bool, true, false, List, [], ◌∷◌, All, Contains, Option, if◌then◌else◌, length, not, option_map, slice_index_or, take}
 use Rattle.std.specs.List.{list_all}
 use Rattle.diagram_program.specs.Program.{Drawing}
 use Rattle.scan_cycle.specs.Programs.{diagram_of}
@@ -7,9 +7,11 @@ use Rattle.scan_cycle.specs.Rung.{Held}
 use Rattle.scan_cycle.specs.Runs.{IsRun, OneScan, after_each}
 use Rattle.scan_cycle.specs.Scan.{given}
 use Rattle.scan_cycle.specs.Standing.{Standing}
+use Rattle.assume_truth.specs.Truth.{is_allowed}
 use Rattle.causes_query.specs.Assignment.{input_variables}
 use Rattle.invariant_cases.specs.Allowing.{is_on_in}
 use Rattle.invariant_cases.specs.Cases.{point_of}
+use Rattle.st_expression.specs.declared.expression.Expression.{Expression}
 use Rattle.reach_runs.specs.declared.query.RunQuery.{RunQuery}
 use Rattle.reach_runs.specs.declared.target.Literal.{Literal}
 use Rattle.reach_runs.specs.declared.timing.Timing.{Timing}
@@ -19,7 +21,8 @@ use Rattle.reach_runs.specs.declared.timing.Timing.TheVariants.{AnyMoments, Ever
 abbrev pub is_so : Held → Literal → Bool
 is_so h literal = if literal.value then is_on_in (point_of literal.symbol) h else not (is_on_in (point_of literal.symbol) h)
 
--- The target is ON where each of the literals is so. The scans begin at a moment, in a state; the listed inputs change.
+-- The target is ON where each of the literals is so. The scans begin at a moment, in a state; the listed inputs change. What is assumed, if
+-- anything is, is true of the inputs of each scan.
 pub record RunQuestion : Type 0 where
   pub program : Drawing
   pub state : Standing
@@ -27,6 +30,7 @@ pub record RunQuestion : Type 0 where
   pub timing : Timing
   pub listed : List ℕ
   pub target : List Literal
+  pub assumed : Option Expression
 
 abbrev pub question_of : RunQuery → RunQuestion
 question_of q = record {
@@ -36,6 +40,7 @@ question_of q = record {
   timing = q.timing;
   listed = q.listed.now;
   target = q.target.now;
+  assumed = option_map (λ e. e.now) q.assumed;
 }
 
 -- The first scan is at this moment, and each other one comes this time after the one before it.
@@ -47,11 +52,12 @@ abbrev pub AreTimed : Timing → ℕ → List OneScan → Type 0
 AreTimed AnyMoments from scans = IsRun from scans
 AreTimed (Every every) from scans = AreEvery every from scans
 
--- A scan gives each input a value, and each one that isn't listed the value that the state stores.
+-- A scan gives each input a value, and each one that isn't listed the value that the state stores; what is assumed is true of them.
 pub record Gives (q : RunQuestion) (inputs : List Bool) : Type 0 where
   pub all : length inputs ≡ length (input_variables (diagram_of q.program).inputs)
   pub stored : (var : ℕ) → (Contains q.listed var → ⊥)
       → slice_index_or (given (diagram_of q.program).inputs inputs q.state.held.values) var false ≡ slice_index_or q.state.held.values var false
+  pub allowed : is_allowed q.assumed inputs ≡ true
 
 -- The runs that are asked about.
 pub record IsAsked (q : RunQuestion) (scans : List OneScan) : Type 0 where

@@ -1,6 +1,7 @@
 //! Runs that switch something on: what is asked of the runs from a state, and the replay of one.
 #![tactic(auto)]
 
+mod assumed;
 mod query;
 mod replay;
 mod run;

@@ -4,6 +4,7 @@ use crate::target::Literal;
 use crate::timing::Timing;
 use diagram_program::Program;
 use scan_cycle::State;
+use st_expression::Expression;
 
 /// What is asked of the runs from a state: whether one switches the target on.
 #[derive(Clone, Copy)]
@@ -17,4 +18,6 @@ pub struct RunQuery<'a> {
     pub listed: &'a [usize],
     /// It is ON where each of these is so.
     pub target: &'a [Literal],
+    /// What is true of the inputs in each scan, if anything is assumed. An operand of it is an input, by its place in order of declaration.
+    pub assumed: Option<&'a Expression>,
 }

@@ -1,10 +1,11 @@
 //! Whether a run switches the target on.
 
-ghost use Rattle.std.specs.Prelude.{◌≡◌, ◌≤◌, ◌↔◌, Bool, List, [], ◌∷◌, IsTrue, Contains, slice_index_or, false};
+ghost use Rattle.std.specs.Prelude.{◌≡◌, ◌≤◌, ◌↔◌, Bool, List, [], ◌∷◌, IsTrue, Contains, None, slice_index_or, false};
 ghost use Rattle.scan_cycle.specs.Standing.{Fits};
 ghost use Rattle.reach_runs.specs.Asking.{AreTimed, Gives, SwitchesOn, question_of};
 ghost use Rattle.reach_runs.specs.Rhythm.{next_after};
 
+use crate::assumed::is_allowed;
 use crate::query::RunQuery;
 use crate::run::RunScan;
 use crate::target::are_so;
@@ -19,10 +20,10 @@ fn may_be_given(query: RunQuery<'_>, var: usize, value: bool) -> bool
     value == query.state.value_or_off(var) || query.listed.contains(&var)
 }
 
-/// Whether a scan gives each input a value that it may.
-fn gives(query: RunQuery<'_>, inputs: &[bool]) -> bool
+/// Whether a scan gives each input a value that it may where nothing is assumed.
+fn gives_each(query: RunQuery<'_>, inputs: &[bool]) -> bool
     requires { Fits query.program.now query.state.now }
-    ensures { IsTrue result ↔ Gives (question_of query.entry) inputs.now }
+    ensures { IsTrue result ↔ Gives (record (question_of query.entry) { assumed = None }) inputs.now }
 {
     let vars = query.program.decls().vars();
     let mut place = 0;
@@ -36,6 +37,14 @@ fn gives(query: RunQuery<'_>, inputs: &[bool]) -> bool
         place += 1;
     }
     place == inputs.len()
+}
+
+/// Whether a scan gives the inputs what it may.
+fn gives(query: RunQuery<'_>, inputs: &[bool]) -> bool
+    requires { Fits query.program.now query.state.now }
+    ensures { IsTrue result ↔ Gives (question_of query.entry) inputs.now }
+{
+    gives_each(query, inputs) && is_allowed(query.assumed, inputs)
 }
 
 /// Whether a scan at the moment is in time: the one after a scan at another moment, or the first one, from its moment on.

@@ -38,4 +38,4 @@ visited_grown q old new g number lt v = λ now later p h a xs x.
 pub visited_here : (q : RunQuestion) (set new : StateSet) (number : ℕ) (k : Known Tri Untimed) (inputs : List Tri) → AreAsked q inputs → k ≡ state_at set number → Grows set new
     → number < count_of set → LeadsOn q new k (time_of q.timing) inputs → IsVisited q new number
 visited_here q set new number k inputs asked is g lt leads = λ now later p h a xs x.
-    leads now later p h (subst (λ (l : Known Tri Untimed). AllowsState q.timing (diagram_of q.program) now l h) (g.same number lt ∙ sym is) a) xs (asked xs x)
+    leads now later p h (subst (λ (l : Known Tri Untimed). AllowsState q.timing (diagram_of q.program) now l h) (g.same number lt ∙ sym is) a) xs (asked xs x) x.allowed

@@ -23,5 +23,8 @@ put_back xs ys zs i unsure one two =
     ap (λ l. set l i Unsure) two ∙ set-set ys i On Unsure ∙ ap (λ l. set l i Unsure) one ∙ set-set xs i Off Unsure
     ∙ ap (set xs i) (sym unsure) ∙ set-get_or xs i Off
 
+pub put_back_first : (xs ys : List Tri) (i : ℕ) → get_or xs i Off ≡ Unsure → ys ≡ set xs i Off → set ys i Unsure ≡ xs
+put_back_first xs ys i unsure one = ap (λ l. set l i Unsure) one ∙ set-set xs i Off Unsure ∙ ap (set xs i) (sym unsure) ∙ set-get_or xs i Off
+
 pub put_on : (xs ys : List Tri) (i : ℕ) → ys ≡ set xs i Off → set ys i On ≡ set xs i On
 put_on xs ys i one = ap (λ l. set l i On) one ∙ set-set xs i Off On

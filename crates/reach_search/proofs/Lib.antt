@@ -1,4 +1,5 @@
 mod AskingLaws
+mod Completed
 mod EqLaws
 mod Growing
 mod InputLaws

@@ -97,7 +97,7 @@ module _ (q : RunQuestion) where
   reached_first set k inputs asked allows leads [] is some most = absurd (omega (arith, some))
   reached_first set k inputs asked allows leads (scan ∷ []) is some most =
       let given : Gives q scan.inputs = All-head (λ s. Gives q s.inputs) scan [] is.given in
-      arrives_after set [] scan (leads q.from scan.moment (timed_first q.timing q.from scan is.timed) q.state.held allows scan.inputs (asked scan.inputs given))
+      arrives_after set [] scan (leads q.from scan.moment (timed_first q.timing q.from scan is.timed) q.state.held allows scan.inputs (asked scan.inputs given) given.allowed)
   reached_first set k inputs asked allows leads (scan ∷ next ∷ more) is some most = absurd (omega (arith, most))
 
   -- and after one scan more, where all states that were reached before are visited

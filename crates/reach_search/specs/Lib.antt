@@ -4,3 +4,4 @@ pub mod Visits
 pub mod Searches
 pub mod Levels
 pub mod Shutting
+pub mod Inputs

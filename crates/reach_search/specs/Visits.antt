@@ -1,5 +1,5 @@
 -- Scans that lead from states to states of a set, with the target OFF.
-use Rattle.std.specs.Prelude.{◌≡◌, ◌<◌, ◌≤◌, ℕ, ◌+◌, Bool, false, fold, if◌then◌else◌, List, slice_index_or}
+use Rattle.std.specs.Prelude.{◌≡◌, ◌<◌, ◌≤◌, ℕ, ◌+◌, Bool, true, false, fold, if◌then◌else◌, List, slice_index_or}
 use Rattle.std.specs.List.{list_all}
 use Rattle.diagram_declarations.specs.declared.decls.Symbol.{Symbol}
 use Rattle.diagram_declarations.specs.declared.decls.Symbol.TheVariants as symbol
@@ -12,6 +12,7 @@ use Rattle.scan_signals.specs.Three.{three_meet, three_inverse}
 use Rattle.scan_signals.specs.declared.tri.Tri.{Tri}
 use Rattle.scan_signals.specs.declared.tri.Tri.TheVariants.{Off, On}
 use Rattle.scan_symbolic.specs.KnownScan.{Known, kept_at}
+use Rattle.assume_truth.specs.Truth.{is_allowed}
 use Rattle.invariant_cases.specs.Allowing.{Allows}
 use Rattle.reach_runs.specs.Asking.{Gives, RunQuestion, is_so}
 use Rattle.reach_runs.specs.declared.target.Literal.{Literal}
@@ -43,9 +44,9 @@ pub record Arrives (q : RunQuestion) (set : StateSet) (now : ℕ) (h : Held) : T
   pub off : list_all (is_so h) q.target ≡ false
   pub there : IsIn q.timing (diagram_of q.program) set now h
 
--- Each scan arrives that is made of one of these states, with inputs that are known in part.
+-- Each scan arrives that is made of one of these states, with inputs that are known in part and of which what is assumed is true.
 abbrev pub Leads : RunQuestion → StateSet → (ℕ → Held → Type 0) → List Tri → Type 0
-Leads q set allows inputs = (now : ℕ) (h : Held) → allows now h → (xs : List Bool) → Both Allows inputs xs
+Leads q set allows inputs = (now : ℕ) (h : Held) → allows now h → (xs : List Bool) → Both Allows inputs xs → is_allowed q.assumed xs ≡ true
     → Arrives q set now (after_scan (diagram_of q.program) now xs h)
 
 -- The moment of the next scan, in a rhythm after so much time.
@@ -56,7 +57,7 @@ Passes (Every every) time now later = later ≡ now + time
 -- Each scan arrives that is made next of a state that may be this one.
 abbrev pub LeadsOn : RunQuestion → StateSet → Known Tri Untimed → ℕ → List Tri → Type 0
 LeadsOn q set k time inputs = (now later : ℕ) → Passes q.timing time now later → (h : Held) → AllowsState q.timing (diagram_of q.program) now k h
-    → (xs : List Bool) → Both Allows inputs xs → Arrives q set later (after_scan (diagram_of q.program) later xs h)
+    → (xs : List Bool) → Both Allows inputs xs → is_allowed q.assumed xs ≡ true → Arrives q set later (after_scan (diagram_of q.program) later xs h)
 
 abbrev pub time_of : Timing → ℕ
 time_of AnyMoments = 0

@@ -5,6 +5,7 @@ mod choosing;
 mod index;
 mod levels;
 mod moments;
+mod possible;
 mod rows;
 mod search;
 mod seeking;

@@ -1,6 +1,6 @@
 //! A run told by the way to a state and one scan more, and replayed.
 
-ghost use Rattle.std.specs.Prelude.{◌≡◌, ◌≤◌, IfOk, IfSome, length};
+ghost use Rattle.std.specs.Prelude.{◌≡◌, ◌<◌, ◌≤◌, IfOk, IfSome, length};
 ghost use Rattle.scan_cycle.specs.Standing.{Fits};
 ghost use Rattle.scan_partial.specs.Sizes.{HasSizes};
 ghost use Rattle.reach_runs.specs.Asking.{SwitchesOn, question_of};
@@ -8,6 +8,7 @@ ghost use Rattle.reach_search.specs.Searches.{IsTellerOf};
 ghost use Rattle.reach_search.specs.Sets.{IsSetFor};
 
 use crate::moments::{Begin, Bound, least_moments};
+use crate::possible::is_possible;
 use crate::state_set::StateSet;
 use crate::ways::Ways;
 use reach_leads::{Kept, forget};
@@ -16,7 +17,8 @@ use reach_states::{Untimed, know_untimed};
 use scan_cycle::scene::instance;
 use scan_cycle::{Memory, State};
 use scan_partial::Knowledge;
-use scan_signals::{Stored, Tri};
+use scan_signals::{Operations, Stored, Tri};
+use st_expression::Expression;
 use std::alloc::Global;
 
 /// What leads to a state: the set, the ways to its states, what is kept of them, the ones on the way, the inputs of the last scan, and of which
@@ -211,20 +213,36 @@ fn stored_inputs(alloc: Global, query: RunQuery<'_>) -> Result<Vec<bool>, Memory
     Ok(inputs)
 }
 
-/// Gives the inputs the values that are known; the others stay as they are.
-fn set_known(inputs: &mut [bool], known: &[Tri])
+/// The value of an input in a scan. One that is open stays as it is, unless what is assumed can't be true with that; what it gets is known then.
+fn settled(assumed: Option<&Expression>, known: &mut [Tri], input: usize, stays: bool) -> bool
+    requires { input < length known.old }
+    ensures { length known.new ≡ length known.old }
+{
+    match known[input] {
+        Tri::On => return true,
+        Tri::Off => return false,
+        Tri::Unsure => {}
+    }
+    known[input] = Tri::known(stays);
+    if is_possible(assumed, known) {
+        return stays;
+    }
+    known[input] = Tri::known(!stays);
+    !stays
+}
+
+/// Gives the inputs the values that are known; the others stay as they are where what is assumed can be true so.
+fn set_known(assumed: Option<&Expression>, inputs: &mut [bool], known: &mut [Tri])
     ensures { length inputs.new ≡ length inputs.old }
 {
     for input in 0..inputs.len() {
-        match known.get(input) {
-            Some(Tri::On) => inputs[input] = true,
-            Some(Tri::Off) => inputs[input] = false,
-            Some(Tri::Unsure) | None => {}
+        if input < known.len() {
+            inputs[input] = settled(assumed, known, input, inputs[input]);
         }
     }
 }
 
-/// The run by a way, at these moments. An input that is open stays as it is.
+/// The run by a way, at these moments. An input that is open stays as it is where what is assumed can be true so.
 fn run_of(
     alloc: Global,
     query: RunQuery<'_>,
@@ -234,7 +252,8 @@ fn run_of(
     let mut run: Vec<RunScan> = Vec::new(alloc);
     let mut inputs = stored_inputs(alloc, query)?;
     for scan in 0..moments.len() {
-        set_known(&mut inputs, way.inputs_of(scan));
+        let mut known = Vec::from_slice(alloc, way.inputs_of(scan))?;
+        set_known(query.assumed, &mut inputs, &mut known);
         run.push(RunScan {
             moment: moments[scan],
             inputs: Vec::from_slice(alloc, &inputs)?,

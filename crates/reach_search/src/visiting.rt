@@ -1,11 +1,14 @@
 //! All scans from one state, whatever the inputs and whichever times have passed.
 
-ghost use Rattle.std.specs.Prelude.{◌≡◌, ◌<◌, ◌≤◌, ◌+◌, ℕ, ◌⊎◌, Bool, List, IfOk, IfSome, IsNone, IsTrue, false, length, slice_index_or};
+ghost use Rattle.std.specs.Prelude.{◌≡◌, ◌<◌, ◌≤◌, ◌+◌, ℕ, ◌⊎◌, Bool, List, IfOk, IfSome, IsNone, IsTrue, false, length, true, slice_index_or};
 ghost use Rattle.scan_cycle.specs.Programs.{diagram_of};
 ghost use Rattle.scan_cycle.specs.Rung.{Held};
 ghost use Rattle.scan_cycle.specs.Standing.{Fits};
 ghost use Rattle.scan_partial.specs.Sizes.{HasSizes};
+ghost use Rattle.scan_signals.specs.Relations.{Both};
 ghost use Rattle.scan_signals.specs.declared.tri.Tri.TheVariants as tri;
+ghost use Rattle.assume_truth.specs.Truth.{is_allowed};
+ghost use Rattle.invariant_cases.specs.Allowing.{Allows};
 ghost use Rattle.reach_runs.specs.Asking.{SwitchesOn, question_of};
 ghost use Rattle.reach_runs.specs.declared.timing.Timing.{Timing as TimingOf};
 ghost use Rattle.reach_runs.specs.declared.timing.Timing.TheVariants as timing;
@@ -16,6 +19,7 @@ ghost use Rattle.reach_search.specs.Visits.{Grows, IsIn, Leads, LeadsOn, told_al
 ghost use Rattle.reach_search.specs.declared.visiting.Visit.TheVariants.{Closed, Found, Missed, Unclear};
 
 use crate::index::hash_of;
+use crate::possible::is_possible;
 use crate::search::{Limits, Search};
 use crate::target::told_all;
 use crate::telling::Way;
@@ -207,13 +211,21 @@ fn by_input(
     Ok(both(off, on))
 }
 
-/// All scans from what is known, whatever the inputs that are open, of which at most so many are tried with both values.
+/// Whether what is assumed is true with none of the inputs, some of which may be open.
+fn is_dead_end(query: RunQuery<'_>, search: &mut Search) -> bool
+    requires { IsSearchOf query.program.now search.old }
+    ensures search { IsSearchOf query.entry.program.now search.new }
+    ensures before { search.new.before ≡ search.old.before }
+    ensures inputs { search.new.inputs.items ≡ search.old.inputs.items }
+    ensures set { search.new.set ≡ search.old.set }
+    ensures dead { result ≡ true → (xs : List Bool) → Both Allows search.old.inputs.items xs → is_allowed (question_of query.entry).assumed xs ≡ false }
+{
+    !is_possible(query.assumed, &mut search.inputs)
+}
+
+/// All scans from what is known with the inputs, some of which may be open: at most so many more are tried with both values.
 #[cycle(inputs)]
-pub(crate) fn visit_inputs(
-    visiting: Visiting<'_>,
-    search: &mut Search,
-    left: usize,
-) -> Result<Visit, Memory>
+fn visit_open(visiting: Visiting<'_>, search: &mut Search, left: usize) -> Result<Visit, Memory>
     requires state { Fits visiting.query.program.now visiting.query.state.now }
     requires from { visiting.query.state.now.moment ≤ visiting.query.from }
     requires search { IsSearchOf visiting.query.program.now search.old }
@@ -245,6 +257,30 @@ pub(crate) fn visit_inputs(
         Some(input) if left > 0 => by_input(visiting, search, input, left - 1),
         _ => arrive(visiting, search),
     }
+}
+
+/// All scans from what is known, whatever the inputs that are open, of which at most so many are tried with both values.
+#[cycle(inputs)]
+pub(crate) fn visit_inputs(
+    visiting: Visiting<'_>,
+    search: &mut Search,
+    left: usize,
+) -> Result<Visit, Memory>
+    requires state { Fits visiting.query.program.now visiting.query.state.now }
+    requires from { visiting.query.state.now.moment ≤ visiting.query.from }
+    requires search { IsSearchOf visiting.query.program.now search.old }
+    ensures search { IfOk result (λ _. IsSearchOf visiting.entry.query.program.now search.new) }
+    ensures grows { IfOk result (λ _. Grows search.old.set search.new.set) }
+    ensures before { IfOk result (λ v. is_end v ≡ false → search.new.before ≡ search.old.before) }
+    ensures inputs { IfOk result (λ v. is_end v ≡ false → search.new.inputs.items ≡ search.old.inputs.items) }
+    ensures closed { IfOk result (λ v. v ≡ Closed → Leads (question_of visiting.entry.query) search.new.set
+        (λ now. AllowsState visiting.entry.query.timing (diagram_of visiting.entry.query.program.now) now search.old.before) search.old.inputs.items) }
+    ensures found { IfOk result (λ v. v ≡ Found → SwitchesOn (question_of visiting.entry.query) search.new.run.items) }
+{
+    if is_dead_end(visiting.query, search) {
+        return Ok(Visit::Closed);
+    }
+    visit_open(visiting, search, left)
 }
 
 /// All scans from what is known, whichever times of the timers from a number on have passed.

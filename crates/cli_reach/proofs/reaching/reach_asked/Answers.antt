@@ -1,4 +1,4 @@
-use Rattle.std.proofs.Common.{◌∙◌, inl, inr, refl, subst, sym}
+use Rattle.std.proofs.Common.{◌∙◌, inl, inr, length, refl, subst, sym}
 use Rattle.cli_inputs.specs.declared.fault.ToolFault.TheVariants as fault
 use Rattle.cli_reach.specs.Asking.{question_of}
 use Rattle.cli_reach.specs.Finding.{IsFound, found_line, verdict_text}
@@ -8,7 +8,7 @@ use Rattle.cli_reach.proofs.reaching.reach_asked.Goals as goal
 pub returns-in-Some-clause-failed : goal.returns-in-Some-clause-failed
 returns-in-Some-clause-failed g c = λ save status. inl (record {
   reason = fault.Cause c.in-Some.fault;
-  has = inr (inr (inl (question_of c.args.asked.now, c.requires.asked, inr (sym c.refusal.ensures ∙ c.in-Some.is))));
+  has = inr (inr (inr (inl (question_of c.args.asked.now, c.requires.asked, inr (sym c.refusal.ensures ∙ c.in-Some.is)))));
   unwritten = refl {a = g.O.Sink.log c.args.out.now};
   unsaved = refl {a = save};
   reported = c.report.ensures.line;
@@ -70,7 +70,7 @@ returns-in_default-put_found-clause-failed g c = λ save status.
         is = subst (λ most. IsFound q most c.found_of-found.result text) c.most_of.ensures c.found_of-found.ensures;
         written = c.in-Ok-write_verdict.ensures;
       };
-      told = tells_last_cut c.args.request.now.progress q _ _ _ (found_line c.found_of-found.result c.in-Ok.sought.states) c.in-Ok.ensures.told
+      told = tells_last_cut c.args.request.now.progress q _ _ _ (found_line c.found_of-found.result c.in-Ok.sought.states (length c.args.request.now.assumed.items)) c.in-Ok.ensures.told
           c.in_default-put_found.ensures;
     }))
 
@@ -89,6 +89,6 @@ returns-clause-done g c = λ status.
         is = subst (λ most. IsFound q most c.found_of-found.result text) c.most_of.ensures c.found_of-found.ensures;
         written = c.in-Ok-write_verdict.ensures;
       };
-      told = tells_last c.args.request.now.progress q _ _ _ (found_line c.found_of-found.result c.in-Ok.sought.states) c.in-Ok.ensures.told
+      told = tells_last c.args.request.now.progress q _ _ _ (found_line c.found_of-found.result c.in-Ok.sought.states (length c.args.request.now.assumed.items)) c.in-Ok.ensures.told
           c.in-Ok-put_found.ensures;
     }

@@ -5,7 +5,7 @@ use Rattle.cli_reach.proofs.telling.put_found.Goals as goal
 
 pub returns-in_err-put_words : goal.returns-in_err-put_words
 returns-in_err-put_words g c =
-    puts_err _ _ _ _ c.from_residual.ensures.0 (puts_cut _ _ (found_words c.args.found) (states_words c.args.states) c.in_err-put_words.ensures)
+    puts_err _ _ _ _ c.from_residual.ensures.0 (puts_cut _ _ (found_words c.args.found) (states_words c.args.states c.args.assumed) c.in_err-put_words.ensures)
 
 pub returns : goal.returns
-returns g c = puts_next _ _ _ (found_words c.args.found) (states_words c.args.states) c.put_states.result c.in_ok-put_words.ensures c.put_states.ensures
+returns g c = puts_next _ _ _ (found_words c.args.found) (states_words c.args.states c.args.assumed) c.put_states.result c.in_ok-put_words.ensures c.put_states.ensures

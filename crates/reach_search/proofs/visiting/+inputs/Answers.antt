@@ -1,5 +1,6 @@
 use Rattle.std.proofs.Common.{◌≡◌, ◌∙◌, ℕ, List, length, set, sym, ap, ap₂, subst, rules}
 use Rattle.std.proofs.lemmas.List.{length-set}
+use Rattle.std.specs.Prelude.{IfOk}
 use Rattle.scan_cycle.specs.Programs.{diagram_of}
 use Rattle.scan_cycle.specs.Rung.{Held}
 use Rattle.scan_signals.specs.Three.{three}
@@ -44,8 +45,8 @@ by_input-returns-clause-closed t c = λ closed.
     leads_by_input q c.visit_inputs.new.search.set c.visit_inputs-2.new.search.set c.in_ok-on.ensures.grows (allows c.args.search.now.before) c.args.search.now.inputs.items c.args.input
     (c.in_ok-off.ensures.closed both.0) on
 
-pub visit_inputs-returns-in_default-clause-closed : goal.visit_inputs-returns-in_default-clause-closed
-visit_inputs-returns-in_default-clause-closed t c =
+pub visit_open-returns-in_default-clause-closed : goal.visit_open-returns-in_default-clause-closed
+visit_open-returns-in_default-clause-closed t c =
     let q = question_of c.args.visiting.query in
     let d = diagram_of q.program in
     let inputs = c.args.search.now.inputs.items in
@@ -56,3 +57,12 @@ visit_inputs-returns-in_default-clause-closed t c =
     (λ v off there closed. leads_from q c.arrive.new.search.set c.args.search.now.before c.scan_known.new.known inputs c.scan_allows.ensures
     (c.scan_known.ensures.known ∙ ap₂ (λ xs k. after_known three untimed d 0 xs k) c.deref.ensures.value c.copy_from.ensures) (off closed) (there closed))
     c.arrive.result c.arrive.ensures.off c.arrive.ensures.there
+
+pub visit_inputs-returns-clause-closed : goal.visit_inputs-returns-clause-closed
+visit_inputs-returns-clause-closed t c =
+    let q = question_of c.args.visiting.query in
+    let d = diagram_of q.program in
+    let set = c.visit_open.new.search.set in
+    let leads = λ (k : Known Tri Untimed). λ (xs : List Tri). IfOk c.visit_open.result (λ (v : Visit). v ≡ Closed → Leads q set (λ now. AllowsState q.timing d now k) xs) in
+    subst (λ (k : Known Tri Untimed). leads k c.args.search.now.inputs.items) c.is_dead_end.ensures.before
+    (subst (λ (xs : List Tri). leads c.is_dead_end.new.search.before xs) c.is_dead_end.ensures.inputs c.visit_open.ensures.closed)

@@ -3,7 +3,7 @@ use Rattle.std.specs.Prelude.{Contains}
 use Rattle.diagram_declarations.specs.Decls.{is_input}
 use Rattle.scan_cycle.specs.Scan.{given}
 use Rattle.reach_runs.proofs.GivenLaws.{rank}
-use Rattle.reach_runs.proofs.replay.gives.Given as goal
+use Rattle.reach_runs.proofs.replay.gives_each.Given as goal
 
 abbrev pub invariant-loop-var : goal.invariant-loop-var
 invariant-loop-var l = record {

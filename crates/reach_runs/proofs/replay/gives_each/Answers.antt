@@ -3,9 +3,9 @@ use Rattle.std.proofs.lemmas.Bool.{eqb-true, eq-eqb, iff_false}
 use Rattle.std.proofs.lemmas.List.{get_or-map}
 use Rattle.diagram_declarations.specs.Decls.{Declared, is_input}
 use Rattle.reach_runs.specs.Asking.{question_of}
-use Rattle.reach_runs.proofs.GivenLaws.{all_keep, as_many, more_given, others_keep, rank, rank_none, rank_off, rank_on, same_keeps, stored_given}
-use Rattle.reach_runs.proofs.replay.gives.Goals as goal
-use Rattle.reach_runs.proofs.replay.gives.Goals.{then-inputs-place-via-then-inputs-place, then-inputs-place-via-else-inputs-place+then-not-may_be_given}
+use Rattle.reach_runs.proofs.GivenLaws.{all_keep, as_many, more_given, others_keep, rank, rank_none, rank_off, rank_on, same_keeps, stored_given, unassumed}
+use Rattle.reach_runs.proofs.replay.gives_each.Goals as goal
+use Rattle.reach_runs.proofs.replay.gives_each.Goals.{then-inputs-place-via-then-inputs-place, then-inputs-place-via-else-inputs-place+then-not-may_be_given}
 
 pub loop-var-init : goal.loop-var-init
 loop-var-init c = record {
@@ -46,7 +46,7 @@ loop-var-preserved c =
 
 pub returns-then-inputs-place : goal.returns-then-inputs-place
 returns-then-inputs-place c =
-    let q = question_of c.args.query in
+    let q = unassumed (question_of c.args.query) in
     let inputs = c.args.inputs.now in
     let vars = c.vars-vars.result.now in
     let var = c.loop-var.var in
@@ -66,7 +66,7 @@ returns-then-inputs-place c =
 
 pub returns : goal.returns
 returns c =
-    let q = question_of c.args.query in
+    let q = unassumed (question_of c.args.query) in
     let inputs = c.args.inputs.now in
     let vars = c.vars-vars.result.now in
     let same : vars ≡ q.program.decls.vars = c.vars-vars.ensures.value ∙ ap (λ (d : Declared). d.vars) c.decls.ensures in
