@@ -20,7 +20,7 @@ use Rattle.cli_lists.specs.AssumedProgress.{BreaksAllProgress, CountsAllProgress
 use Rattle.cli_lists.specs.AssumedRelevant.{BreaksAllRelevant, CountsAllRelevant, HasAllRelevantFault}
 use Rattle.cli_lists.specs.Lists.{after_for, scans_of}
 use Rattle.cli_states.specs.AnyState.{BreaksPossible, CountsPossible, HasPossibleFault}
-use Rattle.cli_states.specs.Never.{BreaksNever, CountsNever, HasNeverFault}
+use Rattle.cli_states.specs.Never.{BreaksAllNever, CountsAllNever, HasAllNeverFault}
 use Rattle.cli_reach.specs.Asking.{HasReachFault}
 use Rattle.cli_reach.specs.Reaching.{BreaksReach, TellsFound}
 use Rattle.cli_views.specs.Expecting.{BreaksExpected, IsExpected}
@@ -44,7 +44,7 @@ IsDone (Check file warns) g old new = Checks warns g (PutsAll old.out new.out) �
 IsDone (Causes list after upto) g old new = CountsCauses g list after upto old.out new.out (PutsAll old.err new.err) × (new.save ≡ old.save)
 IsDone (request.Progress list after upto) g old new = CountsAllProgress g list after upto old new × (new.save ≡ old.save)
 IsDone (Held list scans every grouped) g old new = CountsAllHeld grouped g list (scans_of scans every) old.out new.out (PutsAll old.err new.err) × (new.save ≡ old.save)
-IsDone (request.Never r) g old new = CountsNever r.excluded g r old.out new.out (PutsAll old.err new.err) × (new.save ≡ old.save)
+IsDone (request.Never r) g old new = CountsAllNever g r old.out new.out (PutsAll old.err new.err) × (new.save ≡ old.save)
 IsDone (request.Reach r) g old new = TellsFound g r old.out new.out (PutsAll old.err new.err) × (new.save ≡ old.save)
 IsDone (request.Possible r) g old new = CountsPossible g r old.out new.out (PutsAll old.err new.err) × (new.save ≡ old.save)
 IsDone (Groups list grouping) g old new = CountsAllGroups g list grouping old.out new.out (PutsAll old.err new.err) × (new.save ≡ old.save)
@@ -66,7 +66,7 @@ HasFault (Check file warns) g = HasProgramFault g
 HasFault (Causes list after upto) g = HasCausesFault g list after upto
 HasFault (request.Progress list after upto) g = HasCausesFault g list after upto
 HasFault (Held list scans every grouped) g = HasAllHeldFault grouped g list (scans_of scans every)
-HasFault (request.Never r) g = HasNeverFault g
+HasFault (request.Never r) g = HasAllNeverFault g r
 HasFault (request.Reach r) g = HasReachFault g r
 HasFault (request.Possible r) g = HasPossibleFault g r
 HasFault (Groups list grouping) g = HasGroupsFault g list
@@ -89,7 +89,7 @@ Breaks (Check file warns) g old new =
 Breaks (Causes list after upto) g old new = BreaksCauses g list after upto old new × (new.save ≡ old.save)
 Breaks (request.Progress list after upto) g old new = BreaksAllProgress g list after upto old new × (new.save ≡ old.save)
 Breaks (Held list scans every grouped) g old new = BreaksAllHeld grouped g list (scans_of scans every) old new × (new.save ≡ old.save)
-Breaks (request.Never r) g old new = BreaksNever r.excluded g r old new × (new.save ≡ old.save)
+Breaks (request.Never r) g old new = BreaksAllNever g r old new × (new.save ≡ old.save)
 Breaks (request.Reach r) g old new = BreaksReach g r old new × (new.save ≡ old.save)
 Breaks (request.Possible r) g old new = BreaksPossible g r old new × (new.save ≡ old.save)
 Breaks (Groups list grouping) g old new = BreaksAllGroups g list grouping old new × (new.save ≡ old.save)

@@ -6,47 +6,39 @@ ghost use Rattle.cli_inputs.specs.Reports.{Refuses, logs};
 ghost use Rattle.cli_inputs.specs.Setting.{given_by};
 ghost use Rattle.cli_inputs.specs.declared.fault.ToolFault.TheVariants.{Memory};
 ghost use Rattle.cli_perform.specs.Advised.{FailsAdvised};
-ghost use Rattle.cli_perform.specs.Assuming.{AssumesFirst, AssumesFirstInAny, IsAssuming, TakesComments};
+ghost use Rattle.cli_perform.specs.Assuming.{ArePutFirst, IsAssuming, TakesComments};
 ghost use Rattle.cli_perform.specs.Performs.{IsDone};
 
 use crate::advised::perform_advised;
 use assume_comments::assumed_in;
-use cli_arguments::{ListRequest, PossibleRequest, Request};
+use cli_arguments::Request;
 use cli_inputs::{Texts, ToolFault, report};
 use io_text::Sink;
 use std::alloc::{AllocError, Global};
 use std::mem;
 
-/// Assumes these expressions in a list, before its own.
-fn assume_first(list: &mut ListRequest, texts: Vec<String>) -> Result<(), AllocError>
-    ensures { IfOk result (λ _. AssumesFirst (map string_bytes texts.items) list.old list.new) }
+/// Puts these expressions before others.
+fn put_first(others: &mut Vec<String>, texts: Vec<String>) -> Result<(), AllocError>
+    ensures { IfOk result (λ _. ArePutFirst (map string_bytes texts.items) others.old others.new) }
 {
-    let mut own = mem::replace(&mut list.assumed, texts);
-    list.assumed.append(&mut own)
+    let mut own = mem::replace(others, texts);
+    others.append(&mut own)
 }
 
-/// Assumes these expressions in a request for a list of any state, before its own.
-fn assume_first_in_any(possible: &mut PossibleRequest, texts: Vec<String>) -> Result<(), AllocError>
-    ensures { IfOk result (λ _. AssumesFirstInAny (map string_bytes texts.items) possible.old possible.new) }
-{
-    let mut own = mem::replace(&mut possible.assumed, texts);
-    possible.assumed.append(&mut own)
-}
-
-/// Assumes these expressions in a request for a list of one state or of any, before its own. Any other request stays as it is.
+/// Assumes these expressions in a request that can assume some, before its own. Any other request stays as it is.
 fn assume_all(request: &mut Request, texts: Vec<String>) -> Result<(), AllocError>
     ensures { IfOk result (λ _. IsAssuming (map string_bytes texts.items) request.old request.new) }
 {
     match request {
-        Request::Causes { list, .. } => assume_first(list, texts),
-        Request::Progress { list, .. } => assume_first(list, texts),
-        Request::Held { list, .. } => assume_first(list, texts),
-        Request::Groups { list, .. } => assume_first(list, texts),
-        Request::Relevant { list, .. } => assume_first(list, texts),
-        Request::Possible(possible) => assume_first_in_any(possible, texts),
+        Request::Causes { list, .. } => put_first(&mut list.assumed, texts),
+        Request::Progress { list, .. } => put_first(&mut list.assumed, texts),
+        Request::Held { list, .. } => put_first(&mut list.assumed, texts),
+        Request::Groups { list, .. } => put_first(&mut list.assumed, texts),
+        Request::Relevant { list, .. } => put_first(&mut list.assumed, texts),
+        Request::Possible(possible) => put_first(&mut possible.assumed, texts),
+        Request::Never(never) => put_first(&mut never.assumed, texts),
+        Request::Reach(reach) => put_first(&mut reach.assumed, texts),
         Request::Check { .. }
-        | Request::Never(_)
-        | Request::Reach(_)
         | Request::Show(_)
         | Request::Film(_)
         | Request::Sim(_)
@@ -63,7 +55,7 @@ fn assume_all(request: &mut Request, texts: Vec<String>) -> Result<(), AllocErro
     }
 }
 
-/// Assumes in a request for a list of one state or of any what the comments of its program text assume, before what it assumes by itself.
+/// Assumes in a request that can assume something what the comments of its program text assume, before what it assumes by itself.
 ///
 /// # Errors
 ///
