@@ -23,7 +23,7 @@ X2: a record of the state or the stimulus, or an expression, is bad
 
 Records are counted from 1, the header included; empty lines don't count. A state has exactly the records of its program, in order, with names spelled as declared, no spaces, and numbers without needless zeros. After a change of the program, make its states anew. In both, the fields are divided by commas: semicolons are X2 at record 1. In a stimulus each record has a moment and a 0 or 1 for each name of the header.
 
-Of `causes --assume` it is an expression that is none, with its number: it has a character that isn't allowed or a comment without an end, its words make no expression, or more than 100 parentheses, NOTs and operators stand within one another. The first one is assume 1; with `--assumed` the expressions of the program text come first, in its order.
+Of `--assume` it is an expression that is none, with its number: it has a character that isn't allowed or a comment without an end, its words make no expression, or more than 100 parentheses, NOTs and operators stand within one another. The first one is assume 1; with `--assumed` the expressions of the program text come first, in its order.
 
 ```console
 $ cat two_fields.csv
@@ -63,7 +63,7 @@ rows 1 looks 1 assumed 1
 pub(crate) const X3: &str = "\
 X3: an argument is no name of a variable, or no input in a stimulus or an expression
 
-On the command line COIL is word 1, the first INPUT word 2, also for `show --coil COIL`, with `--stimulus` too; in `show` without it the first INPUT is word 1. Of `reach` NAME is word 1, the name of `--both` is `both`, and the first INPUT word 2; NAME and that of `--both` may be of a block too, with its output behind it (`T1.Q`, of a bistable `B1.Q1`) or without. In the header of a stimulus (row 1) each name must be an input. A name of `sim --watch` must be that of a variable or of a block, without `.Q`; the first one is watch 1. Each word of `causes --assume` that is none of an expression must be the name of an input, no coil, memory variable, block or number; the line has the number of the expression, and the column at which the word begins; of an expression in the program text, columns are counted from the character after `assume:`.
+On the command line COIL is word 1, the first INPUT word 2, also for `show --coil COIL`, with `--stimulus` too; in `show` without it the first INPUT is word 1. Of `reach` NAME is word 1, the name of `--both` is `both`, and the first INPUT word 2; NAME and that of `--both` may be of a block too, with its output behind it (`T1.Q`, of a bistable `B1.Q1`) or without. In the header of a stimulus (row 1) each name must be an input. A name of `sim --watch` must be that of a variable or of a block, without `.Q`; the first one is watch 1. Each word of `--assume` that is none of an expression must be the name of an input, no coil, memory variable, block or number; the line has the number of the expression, and the column at which the word begins; of an expression in the program text, columns are counted from the character after `assume:`.
 
 ```console
 $ ladder causes motor.ld Moter Start Stop

@@ -11,12 +11,12 @@ The status is 2. A subcommand, a file, a coil or a name is missing, an option is
 | | Wants | Excludes |
 |---|---|---|
 | `causes FILE` | `COIL` or `--all-coils` |  |
-| `--any` |  | `--at`, `--after`, `--upto`, `--progress`, `--scans`, `--for`, `--every`, `--assume`, `--assumed`, `--relevant`, `--terms`, `--st`, `--order auto` |
+| `--any` |  | `--at`, `--after`, `--upto`, `--progress`, `--scans`, `--for`, `--every`, `--relevant`, `--terms`, `--st`, `--order auto` |
 | `--off` | `--any` |  |
 | `--must` | `--any` |  |
 | `--reachable` | `--any` |  |
 | `--looks` | `--any` |  |
-| `--runs` | `--any` | `--off`, `--must`, `--grouped` |
+| `--runs` | `--any` | `--off`, `--must`, `--grouped`, `--assume`, `--assumed` |
 | `--states` | `--runs` |  |
 | `--state` with `--any` | `--runs` |  |
 | `--relevant` |  | `--scans`, `--for`, `--every`, `--upto`, `--progress`, `--all-inputs`, `INPUT` |
@@ -56,6 +56,8 @@ The status is 2. A subcommand, a file, a coil or a name is missing, an option is
 | `--st` | `COIL`, and `--grouped` | `--limit`, `--aliases` |
 | `--order auto` | `COIL`, and `--grouped` |  |
 | `--all-inputs` | `COIL` | `INPUT` |
+| `--assume` | `COIL` |  |
+| `--assumed` | `COIL` |  |
 | `--order` | `--order auto` or `--order given` |  |
 
 `ladder show`:
