@@ -43,9 +43,9 @@ _ladder() {
         draw) options='--why --help' ;;
         export) options='--st --xml --name --bits --codesys --aliases --why --help' ;;
         import) options='--open --control --hal --pou --why --help' ;;
-        never) options='--state --off --pairs --quiet --aliases --why --help' ;;
-        reach) options='--state --at --every --scans --states --both --gap --progress --why --help' ;;
-        diff) options='--state --new-state --at --after --upto --limit --scans --for --every --grouped --terms --st --order --looks --reachable --runs --states --save --all-inputs --progress --quiet --aliases --why --help' ;;
+        never) options='--state --assume --assumed --off --pairs --quiet --aliases --why --help' ;;
+        reach) options='--state --at --every --scans --states --both --gap --assume --assumed --progress --why --help' ;;
+        diff) options='--state --new-state --at --after --upto --limit --scans --for --every --assume --assumed --grouped --terms --st --order --looks --reachable --runs --states --save --all-inputs --progress --quiet --aliases --why --help' ;;
         explain) options='--help' ;;
         help)
             mapfile -t COMPREPLY < <(compgen -W 'check causes show sim uses never reach diff draw export import explain' -- "$word")
