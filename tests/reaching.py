@@ -8,7 +8,9 @@ for UNSETTLED. Texts that break a rule are passed over, and those that declare w
 
 Then random drawings with three inputs, from the fresh state, at any moments and in a rhythm. Their states are gone through breadth first,
 by `running.py` too, and their timers take at most 4 ms, so that each time between two scans is tried: each name and some pairs must have a
-run as short as there is one, or none. At any moments an answer may be a longer run, or unsettled: they are counted, and no run may be
+run as short as there is one, or none. In half of the drawings something is assumed of the inputs: then only scans are made with whose inputs a random
+expression is true, and so are those of a run; where no inputs make it true, it is fault C9. What `never`, with the same expression, lists has its
+value after each scan that was gone through, and of its pairs never both are ON; how many names it leaves out that have it too is counted. At any moments an answer may be a longer run, or unsettled: they are counted, and no run may be
 shorter than such an answer says. A drawing of too many states is passed over. At any moments the rows of `causes --any --runs` are
 compared too, of each coil with some of the inputs: each assignment to which a run comes has a row, and no other is marked `r`; rows that are
 left open are counted.
@@ -26,12 +28,13 @@ from collections import Counter
 from typing import NamedTuple
 
 import differential
+from assuming import random_expression, truth, words_of, written
 from model import OUTPUTS, Program
 from running import Running
 from transcript import content, parts, run
 
 HERE = pathlib.Path(__file__).resolve().parent.parent
-ANSWER = re.compile(r"(run|none|unsettled)(?: scans (\d+))? states \d+\n")
+ANSWER = re.compile(r"(run|none|unsettled)(?: scans (\d+))? states \d+(?: assumed 1)?\n")
 TIMERS = ("TON", "TOF", "TP")
 COMMENT = re.compile(r"\(\*.*?\*\)|//[^\n]*", re.DOTALL)
 NOW, MOST_STATES, RHYTHMS = 10 ** 9, 400, (1, 3, 10)
@@ -180,9 +183,10 @@ def check_circuits(words, tool, tally):
 class States:
     """All states that a program reaches from the fresh one, and after how many scans each thing asked for first is ON."""
 
-    def __init__(self, program, every, asked):
-        self.program, self.instances, self.every = program, instances_of(program), every
-        self.inputs = [dict(zip(program.inputs, bits)) for bits in itertools.product((False, True), repeat=len(program.inputs))]
+    def __init__(self, program, every, asked, assumed=True):
+        self.program, self.instances, self.every, self.assumed = program, instances_of(program), every, assumed
+        inputs = [dict(zip(program.inputs, bits)) for bits in itertools.product((False, True), repeat=len(program.inputs))]
+        self.inputs = [values for values in inputs if truth(assumed, values)]
         self.first = dict.fromkeys(asked)
         self.seen, self.after = set(), set()
 
@@ -283,26 +287,59 @@ def check_drawing(tool, folder, seed, tally):
     names = names_of(program)
     asked = [(name,) for name in names] + chance.sample(list(itertools.combinations(names, 2)), min(4, len(names) * (len(names) - 1) // 2))
     every = chance.choice([None, None, *RHYTHMS])
-    states = States(program, every, asked)
+    assumed = random_expression(chance, program.inputs, chance.choice([1, 2, 2, 3])) if chance.random() < 0.5 else True
+    states = States(program, every, asked, assumed)
     if not states.explore():
         tally["drawings passed over"] += 1
         return
     pathlib.Path(folder, "program.ld").write_text(text, "ascii")
     tally["drawings"] += 1
     words = ["--every", str(every)] if every is not None else []
+    if assumed is not True:
+        words += ["--assume=" + written(chance, words_of(chance, assumed))[0]]
+        tally["drawings with something assumed"] += 1
+        if not check_assumed(tool, folder, text, seed, states, words, tally):
+            return
     for one in asked:
         verdict, scans, records = ask(tool, folder, "program.ld", one, *words)
         is_so = judged(verdict, scans, states.first[one], every)
         tally[f"random: {is_so}"] += 1
-        if is_so == "wrong" or verdict == "run" and not is_right(program, one, records, scans, every):
+        is_kept = all(truth(assumed, {name: inputs[name] for name in program.inputs}) for _, inputs in records)
+        if is_so == "wrong" or verdict == "run" and not (is_kept and is_right(program, one, records, scans, every)):
             tally["different"] += 1
             print(text, f"seed {seed}: {' '.join([*words, *one])}: {verdict} {scans}, the first after {states.first[one]}", sep="\n", flush=True)
-    if every is None:
+    if every is None and assumed is True:
         for row, is_so in check_rows(tool, folder, chance, states):
             tally[f"rows: {is_so}"] += 1
             if is_so == "wrong":
                 tally["different"] += 1
                 print(text, f"seed {seed}: {row}", sep="\n", flush=True)
+
+
+def check_assumed(tool, folder, text, seed, states, words, tally):
+    """Whether some inputs make true what is assumed; then what `never` lists is so after each scan, and otherwise all is fault C9."""
+    answers = {}
+    for options in ([], ["--off"], ["--pairs"]):
+        answers[" ".join(options)] = out, err, status = run(tool, ["never", *options, *words[-1:], "program.ld"], folder)
+        is_right = (status == 0) == bool(states.inputs) and (err.endswith(b" assumed 1\n") if status == 0 else (out, err) == (b"", b"fault C9\n"))
+        if not is_right:
+            tally["different"] += 1
+            print(text, f"seed {seed}: never {options} {words[-1:]}: {err!r}", sep="\n", flush=True)
+    if not states.inputs:
+        return False
+    after = [dict(values) for values in states.after]
+    rows = {options: [line.split(",") for line in out.decode().splitlines()[1:]] for options, (out, _, _) in answers.items()}
+    listed = {options: {row[0].upper() for row in rows[options]} for options in ("", "--off")}
+    spelled = {name: name + OUTPUTS.get(kind, ".Q") for name, (kind, _) in states.instances.items()}
+    wrong = [name for options, value in (("", True), ("--off", False)) for name in listed[options] if any(values[spelled.get(name, name)] == value for values in after)]
+    wrong += [row for row in rows["--pairs"] if any(all(values[spelled.get(name.upper(), name.upper())] for name in row[:2]) for values in after)]
+    if wrong:
+        tally["different"] += 1
+        print(text, f"seed {seed}: never {words[-1:]} lists {wrong}", sep="\n", flush=True)
+    off = [name for name in names_of(states.program) if not any(values[name] for values in after)]
+    tally["never with something assumed: listed"] += len([name for name in off if name.partition(".")[0] in listed[""]])
+    tally["names that never come ON and aren't listed"] += len([name for name in off if name.partition(".")[0] not in listed[""]])
+    return True
 
 
 def check_rows(tool, folder, chance, states):
