@@ -34,6 +34,7 @@ impl Asked {
     pub(crate) fn query(&self) -> RunQuery<'_>
         ensures { run_question result ≡ question_of self.now }
     {
+        let assumed = self.assumed.as_ref();
         RunQuery {
             program: &self.program,
             state: &self.state,
@@ -41,7 +42,7 @@ impl Asked {
             timing: self.timing,
             listed: &self.inputs,
             target: &self.target,
-            assumed: self.assumed.as_ref(),
+            assumed,
         }
     }
 }

@@ -11,7 +11,7 @@ use crate::difference::{RunDifference, TwoRuns};
 use crate::preparing::Prepared;
 use diff_runs::laws::{never_shown, not_shown, shown};
 use diff_runs::{Sides, TwoSymbols, pulled};
-use reach_runs::{Literal, RunQuery, RunScan, Timing};
+use reach_runs::{Literal, RunQuery, RunScan};
 use reach_search::{Limits, Sought, Verdict, seek};
 use scan_cycle::Memory;
 use std::alloc::{AllocError, Global};
@@ -39,15 +39,7 @@ fn seek_value(
             value: !value,
         },
     ];
-    let query = RunQuery {
-        program: sides.both,
-        state: &prepared.begun,
-        from: 0,
-        timing: Timing::AnyMoments,
-        listed: &prepared.inputs,
-        target: &target,
-        assumed: None,
-    };
+    let query = RunQuery::unassumed(sides.both, &prepared.begun, 0, &prepared.inputs, &target);
     seek(alloc, query, limits)
 }
 
