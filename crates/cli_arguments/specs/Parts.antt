@@ -77,6 +77,10 @@ HasPrograms rows p = HasText (codes "old") rows (string_bytes p.old)
     × HasOption (codes "state") rows (option_map string_bytes p.state)
     × HasOption (codes "new-state") rows (option_map string_bytes p.new_state)
 
+-- There are no groups, and nothing is assumed of inputs.
+abbrev pub NamesNoGroups : List Row → Type 0
+NamesNoGroups rows = (HasFlag (codes "grouped") rows → ⊥) × AssumesNothing rows
+
 -- Nothing is asked of given scans, there are no groups, and nothing is assumed of inputs.
 abbrev pub NamesNoScans : List Row → Type 0
 NamesNoScans rows = HasOption (codes "state") rows None
@@ -84,8 +88,7 @@ NamesNoScans rows = HasOption (codes "state") rows None
     × HasNumber (codes "at") rows None
     × HasNumber (codes "limit") rows None
     × IsOfOneScan rows
-    × (HasFlag (codes "grouped") rows → ⊥)
-    × AssumesNothing rows
+    × NamesNoGroups rows
 
 -- no comparison is named
 abbrev pub NamesNoDiff : List Row → Type 0

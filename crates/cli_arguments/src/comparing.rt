@@ -3,7 +3,7 @@
 ghost use Rattle.std.specs.Prelude.{◌≡◌, [], true, false, codes, IfOk, IfErr, None, Some};
 ghost use Rattle.clap.specs.Words.{found_of, rows_of};
 ghost use Rattle.cli_arguments.specs.Asking.{HasDiffForm, HasFlag, HasInputs, HasLasting, HasNoTask, HasOption, HasTask, IsTable, NamesDiff, NamesDiffRuns, NamesNoRunSearch, NamesNoScan, NamesNoSearch, NamesVerdicts};
-ghost use Rattle.cli_arguments.specs.Parts.{HasPrograms, MayLast, NamesNoDiff, NamesNoDiffRuns, NamesNoScans, NamesNoVerdicts};
+ghost use Rattle.cli_arguments.specs.Parts.{HasPrograms, MayLast, NamesNoDiff, NamesNoDiffRuns, NamesNoGroups, NamesNoScans, NamesNoVerdicts};
 ghost use Rattle.cli_arguments.specs.Faults.{UsageWhere};
 
 use crate::found::{is_given, is_set, number, optional, text, texts};
@@ -143,6 +143,14 @@ fn diff_request(alloc: Global, found: &ArgMatches<'_>) -> Result<DiffRequest, Wo
     })
 }
 
+/// Whether groups are asked for, or something is assumed of inputs.
+fn is_grouped_or_assumed(found: &ArgMatches<'_>) -> bool
+    ensures none { result ≡ false → NamesNoGroups (rows_of (found_of found.now)) }
+    ensures some { result ≡ true → NamesNoGroups (rows_of (found_of found.now)) → ⊥ }
+{
+    is_set(found, "grouped") || assumes(found)
+}
+
 /// Whether given scans are asked of, or a part of a list, or something is assumed of inputs.
 fn names_scan(found: &ArgMatches<'_>) -> bool
     ensures none { result ≡ false → NamesNoScans (rows_of (found_of found.now)) }
@@ -153,8 +161,7 @@ fn names_scan(found: &ArgMatches<'_>) -> bool
         || is_given(found, "at")
         || is_given(found, "limit")
         || is_counted(found)
-        || is_set(found, "grouped")
-        || assumes(found)
+        || is_grouped_or_assumed(found)
 }
 
 /// Whether runs are asked of, or a number of states that a search keeps is named.

@@ -95,20 +95,20 @@ fn list_where_true<O: Sink, E: Sink>(
         → Refuses (given_by texts.now) (HasAssumedNeverFault (texts_of request.now) (given_by texts.now)) (logs (O.log out.old) save (E.log err.old)) (logs (O.log out.new) save (E.log err.new))
         ⊎ BreaksNeverAssuming (texts_of request.now) request.now.excluded (given_by texts.now) request.now (logs (O.log out.old) save (E.log err.old)) (logs (O.log out.new) save (E.log err.new)) }
 {
-    if let Err(fault) = check_satisfiable(alloc, assumed) {
-        return report(texts, &fault, err);
+    match check_satisfiable(alloc, assumed) {
+        Ok(()) => (),
+        Err(fault) => return report(texts, &fault, err),
     }
     let Ok(staying) = staying_where_true(alloc, setting, assumed) else {
         return report(texts, &ToolFault::Memory, err);
     };
-    let written = write_never(&setting.program, request.excluded, &staying, out);
-    drop(staying);
-    let Ok(rows) = written else {
+    let Ok(rows) = write_never(&setting.program, request.excluded, &staying, out) else {
         return report(texts, &ToolFault::Write, err);
     };
+    let expressions = request.assumed.as_slice();
     let counts = ListCounts::AssumedRows {
         rows,
-        assumed: request.assumed.len() as u64,
+        assumed: expressions.len() as u64,
     };
     let Ok(()) = put_counts(request.quiet, counts, err) else {
         return 1;
@@ -156,7 +156,8 @@ fn list_assuming<O: Sink, E: Sink>(
         → Refuses (given_by texts.now) (HasAssumedNeverFault (texts_of request.now) (given_by texts.now)) (logs (O.log out.old) save (E.log err.old)) (logs (O.log out.new) save (E.log err.new))
         ⊎ BreaksNeverAssuming (texts_of request.now) request.now.excluded (given_by texts.now) request.now (logs (O.log out.old) save (E.log err.old)) (logs (O.log out.new) save (E.log err.new)) }
 {
-    let assumed = match read_assumed(alloc, &setting.program, &request.assumed) {
+    let expressions = request.assumed.as_slice();
+    let assumed = match read_assumed(alloc, &setting.program, expressions) {
         Ok(assumed) => assumed,
         Err(fault) => return report(texts, &fault, err),
     };
@@ -184,7 +185,8 @@ pub fn list_never<O: Sink, E: Sink>(
         Ok(setting) => setting,
         Err(fault) => return report(texts, &fault, err),
     };
-    if request.assumed.is_empty() {
+    let expressions = request.assumed.as_slice();
+    if expressions.is_empty() {
         return list_from(alloc, request, &setting, texts, out, err);
     }
     list_assuming(alloc, request, &setting, texts, out, err)

@@ -1,1 +1,14 @@
+use Rattle.std.proofs.Common.{ap, inl, inr, map, option_map, refl, subst, sym}
+use Rattle.std.specs.Prelude.{string_bytes}
+use Rattle.assume_reading.specs.Several.{AreAssumptions}
+use Rattle.cli_assumed.specs.Assumed.{HasAssumptionFault}
 use Rattle.cli_states.proofs.never.list_assuming.Goals as goal
+
+pub returns-in-Err-clause-failed : goal.returns-in-Err-clause-failed
+returns-in-Err-clause-failed g c = λ save status. inl (record {
+  reason = c.in-Err.fault;
+  has = inr (c.args.setting.now.program, c.args.setting.now.state, c.requires.set, inl (rw c.as_slice-expressions.ensures.value at c.in-Err.ensures.fault));
+  unwritten = refl {a = g.O.Sink.log c.args.out.now};
+  unsaved = refl {a = save};
+  reported = c.report.ensures.line;
+})
