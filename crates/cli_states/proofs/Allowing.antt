@@ -1,5 +1,5 @@
 -- What is assumed of the inputs of a program, in the runs of which something stays so.
-use Rattle.std.proofs.Common.{◌≡◌, ◌∙◌, ap, refl, subst, sym, Bool, List, map, ℕ, Option}
+use Rattle.std.proofs.Common.{◌≡◌, ◌∙◌, ap, refl, sym, Bool, List, map, ℕ, Option}
 use Rattle.std.specs.Prelude.{All}
 use Rattle.st_expression.specs.declared.expression.Expression.{Expression}
 use Rattle.diagram_declarations.specs.Decls.{is_input}
@@ -10,8 +10,7 @@ use Rattle.scan_cycle.specs.Standing.{Fits, Standing}
 use Rattle.causes_query.specs.Assignment.{input_variables}
 use Rattle.causes_query.proofs.Asking.{inputs_of}
 use Rattle.invariant_cases.specs.Allowing.{AreApart}
-use Rattle.invariant_cases.specs.Assuming.{Assumed}
-use Rattle.invariant_sets.specs.Invariants.{AllowsGiven, AreAllowed, IsGivenAllowed, IsStayingAssuming}
+use Rattle.invariant_sets.specs.Invariants.{AllowsGiven, AreAllowed, IsGivenAllowed}
 use Rattle.invariant_sets.specs.Never.{IsSo}
 use Rattle.invariant_sets.specs.declared.staying.Staying.{Staying}
 use Rattle.cli_states.specs.Never.{of_inputs}

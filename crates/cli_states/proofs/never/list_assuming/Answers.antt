@@ -1,7 +1,4 @@
-use Rattle.std.proofs.Common.{ap, inl, inr, map, option_map, refl, subst, sym}
-use Rattle.std.specs.Prelude.{string_bytes}
-use Rattle.assume_reading.specs.Several.{AreAssumptions}
-use Rattle.cli_assumed.specs.Assumed.{HasAssumptionFault}
+use Rattle.std.proofs.Common.{inl, inr, refl}
 use Rattle.cli_states.proofs.never.list_assuming.Goals as goal
 
 pub returns-in-Err-clause-failed : goal.returns-in-Err-clause-failed

@@ -1,8 +1,6 @@
-use Rattle.std.proofs.Common.{◌≡◌, ◌∙◌, Bool, ap, inl, length, refl, subst, sym, false, true}
-use Rattle.std.specs.Prelude.{◌==◌, ◌⊎◌}
-use Rattle.io_text.specs.Log.{PutsAll}
+use Rattle.std.proofs.Common.{◌≡◌, ◌∙◌, Bool, ap, inl, length, refl, sym, false, true}
+use Rattle.std.specs.Prelude.{◌==◌}
 use Rattle.cli_inputs.specs.declared.fault.ToolFault.{ToolFault}
-use Rattle.cli_inputs.specs.Reports.{Refuses, logs}
 use Rattle.cli_inputs.specs.Setting.{Given, HasSettingFault, given_by}
 use Rattle.cli_arguments.specs.declared.request.NeverRequest.{NeverRequest}
 use Rattle.cli_states.specs.Never.{HasNeverFaultBy, assumes_nothing}

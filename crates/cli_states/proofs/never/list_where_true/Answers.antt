@@ -11,8 +11,12 @@ use Rattle.cli_states.proofs.never.list_where_true.Goals as goal
 pub returns-in-Err-clause-failed : goal.returns-in-Err-clause-failed
 returns-in-Err-clause-failed g c = λ save status. inl (record {
   reason = c.in-Err.fault;
-  has = inr (c.args.setting.now.program, c.args.setting.now.state, c.requires.set,
-      inr (option_map (λ e. e.now) c.args.assumed, c.requires.read, c.in-Err.ensures.refused));
+  has = inr (
+    c.args.setting.now.program,
+    c.args.setting.now.state,
+    c.requires.set,
+    inr (option_map (λ e. e.now) c.args.assumed, c.requires.read, c.in-Err.ensures.refused),
+  );
   unwritten = refl {a = g.O.Sink.log c.args.out.now};
   unsaved = refl {a = save};
   reported = c.report.ensures.line;
@@ -24,7 +28,7 @@ returns-in_default-clause-failed g c = λ save status. inl (record {
   has = inl (inr refl);
   unwritten = refl {a = g.O.Sink.log c.args.out.now};
   unsaved = refl {a = save};
-  reported = c.report.ensures.line;
+  reported = c.report-in_default.ensures.line;
 })
 
 pub returns-in_default-write_never-clause-failed : goal.returns-in_default-write_never-clause-failed
@@ -51,7 +55,7 @@ pub returns-in_default-put_counts-clause-failed : goal.returns-in_default-put_co
 returns-in_default-put_counts-clause-failed g c = λ save status.
     let made = c.in-Ok-staying_where_true.ensures in
     let w = c.in-Ok-write_never in
-    let many : c.len.result ≡ length (texts_of c.args.request.now) = c.len.ensures ∙ ap length c.as_slice-expressions.ensures.value ∙ sym (length-map c.args.request.now.assumed.items string_bytes) in
+    let many : length c.as_slice-expressions.result.now ≡ length (texts_of c.args.request.now) = ap length c.as_slice-expressions.ensures.value ∙ sym (length-map c.args.request.now.assumed.items string_bytes) in
     inr (inr (record {
       list = record {
         program = c.args.setting.now.program;
@@ -73,7 +77,7 @@ pub returns-clause-done : goal.returns-clause-done
 returns-clause-done g c = λ status.
     let made = c.in-Ok-staying_where_true.ensures in
     let w = c.in-Ok-write_never in
-    let many : c.len.result ≡ length (texts_of c.args.request.now) = c.len.ensures ∙ ap length c.as_slice-expressions.ensures.value ∙ sym (length-map c.args.request.now.assumed.items string_bytes) in
+    let many : length c.as_slice-expressions.result.now ≡ length (texts_of c.args.request.now) = ap length c.as_slice-expressions.ensures.value ∙ sym (length-map c.args.request.now.assumed.items string_bytes) in
     record {
       list = record {
         program = c.args.setting.now.program;

@@ -19,7 +19,7 @@ inputs_are : (c : goal.After-drop-inputs) → record { inputs = c.deref.result.n
     ≡ of_inputs c.args.setting.now.program (option_map (λ e. e.now) c.args.assumed)
 inputs_are c =
     are_inputs c.args.setting.now.program c.deref.result.now (option_map (λ e. e.now) c.args.assumed)
-    (c.deref.ensures.value ∙ c.in_ok-inputs.ensures tt
+    (c.deref.ensures.value ∙ c.in_ok-inputs.ensures
     ∙ ap (λ (vs : List Var). input_variables (map is_input vs)) (c.vars.ensures.value ∙ ap (λ (d : Declared). d.vars) c.decls.ensures))
 
 pub returns-clause-stays : goal.returns-clause-stays
