@@ -1,5 +1,5 @@
 -- How a comparison ends that may assume something of the inputs, from what each step of it ensures.
-use Rattle.std.proofs.Common.{◌≡◌, ◌⊎◌, ◌∙◌, ◌≤◌, ap, inl, inr, refl, subst, sym, ℕ, Bool, true, false, List, Option, None, Some, length}
+use Rattle.std.proofs.Common.{◌≡◌, ◌≤◌, ap, inl, inr, refl, subst, sym, ℕ, Bool, true, false, List, Option, None, Some, length}
 use Rattle.std.specs.Prelude.{option_map}
 use Rattle.std.specs.Option.{option_or}
 use Rattle.causes_query.specs.Causes.{Question}

@@ -1,5 +1,5 @@
 -- What is assumed of both programs: how it is counted, and whether some combination makes it true.
-use Rattle.std.proofs.Common.{◌≡◌, ◌⊎◌, ◌∙◌, ap, ap₂, inl, inr, refl, subst, sym, ℕ, ◌<◌, Bool, true, false, List, Option, None, Some, length, map}
+use Rattle.std.proofs.Common.{◌≡◌, ◌∙◌, ap, ap₂, inl, inr, refl, subst, sym, ℕ, ◌<◌, Bool, true, false, List, Option, None, Some, length, map}
 use Rattle.std.specs.Prelude.{◌&&◌, ◌^◌}
 use Rattle.st_expression.specs.declared.expression.Expression.{Expression}
 use Rattle.diagram_declarations.specs.Decls.{is_input}

@@ -1,12 +1,12 @@
 -- How a list ends that tells how far it is, from what each step of it ensures.
-use Rattle.std.proofs.Common.{◌≡◌, ◌⊎◌, ◌∙◌, ap, inl, inr, refl, subst, sym, ℕ, List, Option, None, Some, Ok, Err, Result, length}
+use Rattle.std.proofs.Common.{◌≡◌, ◌⊎◌, inl, inr, refl, subst, sym, ℕ, List, Option, None, Some, Ok, Err, Result}
 use Rattle.causes_query.specs.Causes.{Question}
 use Rattle.diff_causes.specs.Cursor.{DifferenceCursor}
 use Rattle.diff_causes.specs.Assuming.{assumed_differences_after}
 use Rattle.diff_causes.specs.Differences.{differences_to}
 use Rattle.diff_causes.specs.declared.rows.Difference.{Difference}
 use Rattle.text_causes.specs.CauseText.{limited}
-use Rattle.text_causes.specs.Progress.{TellsAll, TellsUntil}
+use Rattle.text_causes.specs.Progress.{TellsUntil}
 use Rattle.text_causes.specs.declared.progress.ProgressFault.{ProgressFault}
 use Rattle.text_causes.specs.declared.progress.ProgressFault.TheVariants.{Lines, Rows}
 use Rattle.text_differences.specs.DifferenceText.{difference_text, part}

@@ -23,10 +23,8 @@ use Rattle.cli_questions.specs.Ending.{Listing}
 use Rattle.cli_questions.specs.Forms.{form_on}
 use Rattle.cli_questions.specs.declared.counting.ListCounts.{ListCounts}
 use Rattle.cli_questions.specs.declared.counting.ListCounts.TheVariants as counts
-use Rattle.cli_inputs.specs.declared.fault.ToolFault.{ToolFault}
 use Rattle.cli_inputs.specs.declared.fault.ToolFault.TheVariants as fault
 use Rattle.causes_query.specs.declared.fault.CauseFault.TheVariants as cause
-use Rattle.search_differences.specs.declared.side.Side.{Side}
 use Rattle.search_differences.specs.declared.side.Side.TheVariants.{Old}
 use Rattle.cli_diff.specs.declared.sided.SidedFault.{SidedFault}
 use Rattle.cli_diff.specs.Faults.{new_refusal, old_refusal, scans_of}

@@ -1,6 +1,6 @@
 //! What a comparison assumes of the inputs of both programs.
 
-ghost use Rattle.std.specs.Prelude.{◌≡◌, ◌++◌, ◌<◌, ◌^◌, List, ℕ, IfErr, IfOk, false, length, map, string_bytes, true};
+ghost use Rattle.std.specs.Prelude.{◌≡◌, ◌++◌, ◌<◌, ◌^◌, List, ℕ, IfErr, IfOk, length, map, string_bytes};
 ghost use Rattle.cli_inputs.specs.Setting.{given_by};
 ghost use Rattle.cli_inputs.specs.declared.fault.ToolFault.TheVariants.{Memory};
 ghost use Rattle.cli_questions.specs.Query.{question_of};
