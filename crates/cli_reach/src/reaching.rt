@@ -1,6 +1,6 @@
 //! A request for a run that switches something on.
 
-ghost use Rattle.std.specs.Prelude.{◌≡◌, ◌≤◌, ◌⊎◌};
+ghost use Rattle.std.specs.Prelude.{◌≡◌, ◌≤◌, ◌⊎◌, length};
 ghost use Rattle.scan_cycle.specs.Standing.{Fits};
 ghost use Rattle.io_text.specs.Log.{PutsAll, WriteLog};
 ghost use Rattle.cli_inputs.specs.Reports.{Refuses, logs};
@@ -48,6 +48,13 @@ fn limits_of(request: &ReachRequest) -> Limits {
     }
 }
 
+/// How many expressions a request assumes.
+fn assumed_by(request: &ReachRequest) -> u64
+    ensures { result ≡ length request.now.assumed.items }
+{
+    request.assumed.len() as u64
+}
+
 /// Searches for what is asked, and writes what was found.
 fn reach_asked<O: Sink, E: Sink>(
     alloc: Global,
@@ -77,7 +84,7 @@ fn reach_asked<O: Sink, E: Sink>(
     let Ok(()) = write_verdict(asked.timing, &asked.program, &sought.verdict, out) else {
         return report(texts, &ToolFault::Write, err);
     };
-    let assumed = request.assumed.len() as u64;
+    let assumed = assumed_by(request);
     let Ok(()) = put_found(found, sought.states as u64, assumed, err) else {
         return 1;
     };

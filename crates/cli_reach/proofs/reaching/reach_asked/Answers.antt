@@ -1,4 +1,5 @@
-use Rattle.std.proofs.Common.{◌∙◌, inl, inr, length, refl, subst, sym}
+use Rattle.std.proofs.Common.{◌∙◌, ℕ, inl, inr, length, refl, subst, sym}
+use Rattle.io_text.specs.Log.{PutsAll, PutsPrefix}
 use Rattle.cli_inputs.specs.declared.fault.ToolFault.TheVariants as fault
 use Rattle.cli_reach.specs.Asking.{question_of}
 use Rattle.cli_reach.specs.Finding.{IsFound, found_line, verdict_text}
@@ -71,7 +72,7 @@ returns-in_default-put_found-clause-failed g c = λ save status.
         written = c.in-Ok-write_verdict.ensures;
       };
       told = tells_last_cut c.args.request.now.progress q _ _ _ (found_line c.found_of-found.result c.in-Ok.sought.states (length c.args.request.now.assumed.items)) c.in-Ok.ensures.told
-          c.in_default-put_found.ensures;
+          (subst (λ (n : ℕ). PutsPrefix (g.E.Sink.log c.sought_of.new.err) (g.E.Sink.log c.put_found.new.err) (found_line c.found_of-found.result c.in-Ok.sought.states n)) c.assumed_by-assumed.ensures c.in_default-put_found.ensures);
     }))
 
 pub returns-clause-done : goal.returns-clause-done
@@ -90,5 +91,5 @@ returns-clause-done g c = λ status.
         written = c.in-Ok-write_verdict.ensures;
       };
       told = tells_last c.args.request.now.progress q _ _ _ (found_line c.found_of-found.result c.in-Ok.sought.states (length c.args.request.now.assumed.items)) c.in-Ok.ensures.told
-          c.in-Ok-put_found.ensures;
+          (subst (λ (n : ℕ). PutsAll (g.E.Sink.log c.sought_of.new.err) (g.E.Sink.log c.put_found.new.err) (found_line c.found_of-found.result c.in-Ok.sought.states n)) c.assumed_by-assumed.ensures c.in-Ok-put_found.ensures);
     }
