@@ -1,6 +1,7 @@
 -- What a request for a run asks, and why it is refused.
 use Rattle.std.specs.Prelude.{◌≡◌, ◌⊎◌, ℕ, Bool, true, false, not, nat_lt, List, [], ◌∷◌, Option, None, find, map, slice_index_or, string_bytes, unwrap_or}
 use Rattle.std.specs.List.{list_all}
+use Rattle.st_expression.specs.declared.expression.Expression.{Expression}
 use Rattle.diagram_declarations.specs.declared.decls.Symbol.{Symbol}
 use Rattle.diagram_declarations.specs.declared.decls.Symbol.TheVariants as symbol
 use Rattle.diagram_declarations.specs.Decls.{Declared, is_input}
@@ -17,7 +18,7 @@ use Rattle.reach_runs.specs.declared.timing.Timing.TheVariants as timing
 use Rattle.cli_arguments.specs.declared.request.Pace.{Pace}
 use Rattle.cli_arguments.specs.declared.request.Pace.TheVariants as pace
 use Rattle.cli_arguments.specs.declared.request.ReachRequest.{ReachRequest}
-use Rattle.cli_assumed.specs.Assumed.{HasAssumptionFault}
+use Rattle.cli_assumed.specs.Assumed.{HasAssumptionFault, HasTruthFault, MayBeTrue}
 use Rattle.cli_inputs.specs.Reports.{HasCauseFault}
 use Rattle.cli_inputs.specs.Setting.{Given, HasSettingFault, IsSet}
 use Rattle.cli_inputs.specs.Variables.{AreListed}
@@ -51,7 +52,8 @@ question_of a = record {
 }
 
 -- The program and the state are those of the texts. The scans are from the moment on that is given, or else from the stored one. The inputs
--- change that are named, or all where none is. What each expression says is assumed of the inputs of each scan.
+-- change that are named, or all where none is. What each expression says is assumed of the inputs of each scan,
+-- and may be true.
 pub record IsAskedBy (g : Given) (r : ReachRequest) (q : RunQuestion) : Type 0 where
   pub set : IsSet g q.program q.state
   pub from : q.from ≡ unwrap_or r.moment q.state.moment
@@ -59,6 +61,7 @@ pub record IsAskedBy (g : Given) (r : ReachRequest) (q : RunQuestion) : Type 0 w
   pub target : IsTarget q.program.decls r q.target
   pub listed : AreListed q.program.decls (is_empty r.inputs.items) (map string_bytes r.inputs.items) q.listed
   pub assumed : AreAssumptions q.program.decls (map string_bytes r.assumed.items) q.assumed
+  pub may : MayBeTrue q.assumed
 
 -- ---- refusals
 
@@ -90,10 +93,15 @@ pub record AreNamed (decls : Declared) (r : ReachRequest) : Type 0 where
   pub inputs : List ℕ
   pub listed : AreListed decls (is_empty r.inputs.items) (map string_bytes r.inputs.items) inputs
 
--- A fault of the texts, of the names, or else of an expression, or of what is asked; or being out of memory.
+-- An expression is refused, or no inputs make all of them true.
+abbrev pub HasExpressionFault : Declared → ReachRequest → ToolFault → Type 0
+HasExpressionFault decls r f = HasAssumptionFault decls (map string_bytes r.assumed.items) f
+    ⊎ ((assumed : Option Expression) × AreAssumptions decls (map string_bytes r.assumed.items) assumed × HasTruthFault assumed f)
+
+-- A fault of the texts, of the names, or else of the expressions, or of what is asked; or being out of memory.
 abbrev pub HasReachFault : Given → ReachRequest → ToolFault → Type 0
 HasReachFault g r f = HasSettingFault g f
     ⊎ ((p : Drawing) × (s : Standing) × IsSet g p s × HasNameFault p.decls r f)
-    ⊎ ((p : Drawing) × (s : Standing) × IsSet g p s × AreNamed p.decls r × HasAssumptionFault p.decls (map string_bytes r.assumed.items) f)
+    ⊎ ((p : Drawing) × (s : Standing) × IsSet g p s × AreNamed p.decls r × HasExpressionFault p.decls r f)
     ⊎ ((q : RunQuestion) × IsAskedBy g r q × HasCauseFault (refusal q) f)
     ⊎ (f ≡ fault.Memory)

@@ -1,14 +1,16 @@
 //! What a request for a run asks.
 
-ghost use Rattle.std.specs.Prelude.{◌≡◌, IfErr, IfOk};
+ghost use Rattle.std.specs.Prelude.{◌≡◌, IfErr, IfOk, map, string_bytes};
 ghost use Rattle.scan_cycle.specs.Standing.{Fits};
+ghost use Rattle.assume_reading.specs.Several.{AreAssumptions};
 ghost use Rattle.reach_runs.specs.Asking.{question_of as run_question};
 ghost use Rattle.cli_inputs.specs.Setting.{given_by};
-ghost use Rattle.cli_reach.specs.Asking.{HasReachFault, IsAskedBy, question_of, timing_of};
+ghost use Rattle.cli_assumed.specs.Assumed.{MayBeTrue};
+ghost use Rattle.cli_reach.specs.Asking.{HasExpressionFault, HasReachFault, IsAskedBy, question_of, timing_of};
 
 use crate::naming::{inputs_of, target_of};
 use cli_arguments::{Pace, ReachRequest};
-use cli_assumed::read_assumed;
+use cli_assumed::{check_satisfiable, read_assumed};
 use cli_inputs::{Setting, Texts, ToolFault, moment, read_setting};
 use diagram_program::Program;
 use reach_runs::{Literal, RunQuery, Timing};
@@ -57,11 +59,36 @@ fn timing_of(pace: Pace) -> Timing
     }
 }
 
+/// Reads what is assumed of the inputs of each scan, and refuses what no inputs make true.
+///
+/// # Errors
+///
+/// A fault of the first expression that is refused, or else `NeverTrue`, or `Memory`.
+fn assumed_of(
+    alloc: Global,
+    program: &Program,
+    request: &ReachRequest,
+) -> Result<Option<Expression>, ToolFault>
+    ensures read { IfOk result (λ assumed. AreAssumptions program.now.decls (map string_bytes request.now.assumed.items) assumed) }
+    ensures may { IfOk result (λ assumed. MayBeTrue assumed) }
+    ensures fault { IfErr result (HasExpressionFault program.now.decls request.now) }
+{
+    let expressions = request.assumed.as_slice();
+    let assumed = match read_assumed(alloc, program, expressions) {
+        Ok(assumed) => assumed,
+        Err(fault) => return Err(fault),
+    };
+    match check_satisfiable(alloc, assumed.as_ref()) {
+        Ok(()) => Ok(assumed),
+        Err(fault) => Err(fault),
+    }
+}
+
 /// Reads the texts, the names and the expressions of a request.
 ///
 /// # Errors
 ///
-/// A fault of the program text or of the state text, or else of a name, or else of an expression.
+/// A fault of the program text or of the state text, or else of a name, or else of the expressions.
 pub(crate) fn read_asked(
     alloc: Global,
     request: &ReachRequest,
@@ -83,7 +110,7 @@ pub(crate) fn read_asked(
         Ok(inputs) => inputs,
         Err(fault) => return Err(fault),
     };
-    match read_assumed(alloc, &program, &request.assumed) {
+    match assumed_of(alloc, &program, request) {
         Ok(assumed) => {
             let from = moment(request.moment, state.moment());
             Ok(Asked {
