@@ -1,8 +1,9 @@
-use Rattle.std.proofs.Common.{List, ℕ, inl, inr, refl, subst, sym}
+use Rattle.std.proofs.Common.{Err, None, inl, inr, refl, subst, sym}
 use Rattle.std.specs.Prelude.{map, option_map, string_bytes}
 use Rattle.assume_reading.specs.Several.{AreAssumptions}
-use Rattle.cli_assumed.specs.Assumed.{HasAssumptionFault}
+use Rattle.cli_inputs.specs.declared.fault.ToolFault.TheVariants as fault
 use Rattle.cli_questions.specs.Query.{question_of}
+use Rattle.cli_states.specs.AnyState.{AssumedPossibleBy, AssumedPossibleRefusal}
 use Rattle.cli_states.specs.Query.{at_stored}
 use Rattle.cli_states.proofs.PossibleEnds.{assumed_plain, assumed_runs, writes_as}
 use Rattle.cli_states.proofs.possible.write_assuming.Goals as goal
@@ -10,20 +11,24 @@ use Rattle.cli_states.proofs.possible.write_assuming.Goals as goal
 pub returns-in-Some : goal.returns-in-Some
 returns-in-Some g c =
     let r = c.args.request.now in
-    assumed_runs r (at_stored (question_of c.args.asked.now)) _ _ _ r.runs c.in-Some._runs c.in-Some.is
+    let o = g.O.Sink.log c.args.out.now in
+    assumed_runs r (at_stored (question_of c.args.asked.now)) o o (Err fault.Usage) r.runs c.in-Some._runs c.in-Some.is
 
 pub returns-in-Err : goal.returns-in-Err
 returns-in-Err g c =
     let r = c.args.request.now in
     let q = at_stored (question_of c.args.asked.now) in
-    assumed_plain r q _ _ _ r.runs c.in_default.is
-    (inl (inl (rw c.as_slice-texts.ensures.value at c.in-Err.ensures.fault), refl))
+    let o = g.O.Sink.log c.args.out.now in
+    assumed_plain r q o o (Err c.in-Err.fault) r.runs c.in_default.is
+    (inl (inl (rw c.as_slice-texts.ensures.value at c.in-Err.ensures.fault), refl {a = o}))
 
 pub returns : goal.returns
 returns g c =
     let r = c.args.request.now in
     let q = at_stored (question_of c.args.asked.now) in
+    let o = g.O.Sink.log c.args.out.now in
+    let w = c.write_possible-written in
     let assumed = option_map (λ e. e.now) c.as_ref.result in
     let read = subst (λ a. AreAssumptions q.program.decls (map string_bytes r.assumed.items) a) (sym c.as_ref.ensures.value) (rw c.as_slice-texts.ensures.value at c.in-Ok.ensures.read) in
-    assumed_plain r q _ _ _ r.runs c.in_default.is
-    (writes_as _ _ _ _ _ _ _ (λ text n h. (assumed, read, h.0, h.1)) (λ f h. inr (assumed, read, h)) c.write_possible-written.ensures)
+    assumed_plain r q o (g.O.Sink.log w.new.out) w.result r.runs c.in_default.is
+    (writes_as _ (AssumedPossibleBy None r q) _ (AssumedPossibleRefusal None r q) o (g.O.Sink.log w.new.out) w.result (λ text n h. (assumed, read, h.0, h.1)) (λ f h. inr (assumed, read, h)) w.ensures)
