@@ -1,4 +1,4 @@
-use Rattle.std.proofs.Common.{◌∙◌, ap, ap₂, arith, sym}
+use Rattle.std.proofs.Common.{◌∙◌, ap₂, arith, sym}
 use Rattle.cli_questions.specs.declared.counting.ListCounts.TheVariants as counts
 use Rattle.cli_states.proofs.PossibleEnds.{counts_some}
 use Rattle.cli_states.proofs.possible.counts_of.Goals as goal
