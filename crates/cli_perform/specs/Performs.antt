@@ -1,5 +1,5 @@
 -- How a request ends: all is written, or a fault stops it.
-use Rattle.std.specs.Prelude.{◌≡◌, ◌⊎◌, ℕ, Bool, List, Option, None, codes, is_some, option_map, string_bytes, unwrap_or}
+use Rattle.std.specs.Prelude.{◌≡◌, ◌⊎◌, ℕ, Bool, List, Option, codes, is_some, option_map, string_bytes, unwrap_or}
 use Rattle.io_text.specs.Log.{PutsAll, PutsPrefix}
 use Rattle.text_cross_reference.specs.Uses.{uses_text}
 use Rattle.cli_inputs.specs.declared.fault.ToolFault.{ToolFault}
