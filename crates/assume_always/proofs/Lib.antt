@@ -1,1 +1,2 @@
 mod Opposites
+mod Lines

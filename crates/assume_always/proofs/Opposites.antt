@@ -1,9 +1,18 @@
 -- The opposite of an expression.
 use Rattle.std.proofs.Common.{◌≡◌, ◌∙◌, ap, refl, sym, subst, Bool, true, false, not, Box, Global, List, []}
+use Rattle.std.specs.Prelude.{IsFalse, IsTrue}
 use Rattle.st_expression.specs.declared.expression.Expression.{Expression, Not}
 use Rattle.st_expression.specs.Value.{held_by, value}
 use Rattle.assume_always.specs.Always.{IsAlwaysTrue, IsSometimesFalse}
 use Rattle.assume_possible.specs.Satisfiable.{IsSatisfiable, IsUnsatisfiable}
+
+pub not_true : (b : Bool) → IsTrue (not b) → IsFalse b
+not_true true h = cc
+not_true false h = refl
+
+pub not_false : (b : Bool) → IsFalse (not b) → IsTrue b
+not_false true h = refl
+not_false false h = cc
 
 must_be_on : (b : Bool) → not b ≡ false → b ≡ true
 must_be_on true h = refl

@@ -25,13 +25,17 @@ fn is_always_true(alloc: Global, expression: Expression) -> Result<bool, AllocEr
 
 /// Whether a text says what is always true. A text that is refused doesn't.
 fn says_always(alloc: Global, decls: &Decls, text: &[u8]) -> Result<bool, AllocError>
-    ensures always { (number : ℕ) (more : List ℕ) → IfOk result (λ is. IsTrue is → IsTold decls.now number text.now more (number ∷ more)) }
-    ensures other { (number : ℕ) (more : List ℕ) → IfOk result (λ is. IsFalse is → IsTold decls.now number text.now more more) }
+    ensures always { IfOk result (λ is. IsTrue is → (number : ℕ) (more : List ℕ) → IsTold decls.now number text.now more (number ∷ more)) }
+    ensures other { IfOk result (λ is. IsFalse is → (number : ℕ) (more : List ℕ) → IsTold decls.now number text.now more more) }
 {
-    match read_assumption(alloc, decls, text) {
-        Ok(expression) => is_always_true(alloc, expression),
-        Err(AssumptionFault::Memory) => Err(AllocError),
-        Err(_) => Ok(false),
+    let expression = match read_assumption(alloc, decls, text) {
+        Ok(expression) => expression,
+        Err(AssumptionFault::Memory) => return Err(AllocError),
+        Err(_) => return Ok(false),
+    };
+    match is_always_true(alloc, expression) {
+        Ok(is_always) => Ok(is_always),
+        Err(fault) => Err(fault),
     }
 }
 
@@ -45,6 +49,17 @@ fn first_text(texts: &[String]) -> Option<(&[u8], &[String])>
         [text, behind @ ..] => Some((text.as_str().as_bytes(), behind)),
         [] => None,
     }
+}
+
+/// Adds a number where it is told.
+fn add_told(is_told: bool, number: u64, numbers: &mut Vec<u64>) -> Result<(), AllocError>
+    ensures told { IfOk result (λ _. IsTrue is_told → numbers.new.items ≡ numbers.old.items ++ number ∷ []) }
+    ensures same { IfOk result (λ _. IsFalse is_told → numbers.new.items ≡ numbers.old.items) }
+{
+    if is_told {
+        numbers.push(number)?;
+    }
+    Ok(())
 }
 
 /// Adds the numbers of the texts, counted from this one on, that are always true.
@@ -61,10 +76,12 @@ fn add_always(
     let Some((text, behind)) = first_text(texts) else {
         return Ok(());
     };
-    if says_always(alloc, decls, text)? {
-        numbers.push(number)?;
+    let is_told = says_always(alloc, decls, text)?;
+    add_told(is_told, number, numbers)?;
+    match add_always(alloc, decls, number + 1, behind, numbers) {
+        Ok(()) => Ok(()),
+        Err(fault) => Err(fault),
     }
-    add_always(alloc, decls, number + 1, behind, numbers)
 }
 
 /// The numbers of the expressions that are always true, counted from 1: of each of them no values of the inputs make the opposite true. A text that
