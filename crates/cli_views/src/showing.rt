@@ -76,9 +76,16 @@ fn check_assumed(
         Ok(assumed) => assumed,
         Err(fault) => return Err(fault),
     };
-    let checked = check_true(assumed.as_ref(), inputs);
-    drop(assumed);
-    checked
+    match check_true(assumed.as_ref(), inputs) {
+        Ok(()) => {
+            drop(assumed);
+            Ok(())
+        }
+        Err(fault) => {
+            drop(assumed);
+            Err(fault)
+        }
+    }
 }
 
 /// The inputs of the scan that is asked for, where nothing of it is refused.
