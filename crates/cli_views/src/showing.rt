@@ -8,7 +8,7 @@ ghost use Rattle.io_text.specs.Log.{Puts, PutsAll, PutsPrefix, WriteLog};
 ghost use Rattle.text_drawing.specs.Showing.{IsDrawn, scan_of};
 ghost use Rattle.cli_inputs.specs.Reports.{IsReported, Refuses, logs};
 ghost use Rattle.cli_inputs.specs.declared.fault.ToolFault.TheVariants.{Memory, Write};
-ghost use Rattle.cli_views.specs.Views.{AreAsAssumed, HasAssumedFault, HasShowFault, IsScanRefused, Shows, assumed_note, assumed_notes, broken_first, coil_refusal, frame_for, shown_inputs, style_for};
+ghost use Rattle.cli_views.specs.Views.{AreAsAssumed, HasAssumedFault, HasShowFault, IsScanRefused, Shows, assumed_note, assumed_notes, broken_first, coil_refusal, frame_for, moment_of, shown_inputs, style_for};
 ghost use Rattle.cli_inputs.specs.Setting.{IsSet, given_by};
 
 use causes_query::{CauseFault, assignment};
@@ -99,6 +99,7 @@ fn inputs_of(
     requires { Fits program.now state.now }
     ensures inputs { IfOk result (λ v. v.items ≡ shown_inputs request.now program.now state.now asked.now.inputs.items) }
     ensures accepted { IfOk result (λ v. broken_first request.now program.now state.now asked.now.coil asked.now.inputs.items ≡ None) }
+    ensures later { IfOk result (λ v. state.now.moment ≤ moment_of request.now state.now) }
     ensures assumed { IfOk result (λ v. AreAsAssumed request.now program.now (shown_inputs request.now program.now state.now asked.now.inputs.items)) }
     ensures refused { IfErr result (IsScanRefused request.now program.now state.now asked.now.coil asked.now.inputs.items) }
 {
