@@ -1,11 +1,13 @@
 -- The state before the last scan of a run that comes to a number, with the inputs that this scan gives, leads to the number.
-use Rattle.std.proofs.Common.{◌≡◌, ◌∙◌, ap, refl, sym, subst, arith, ℕ, ◌+◌, ◌-◌, ◌<◌, ◌≤◌, ◌^◌, ◌==◌, ◌&&◌, Bool, true, false, not, cond, List, [], ◌∷◌, Option, Some, None, length, map, get_or}
+use Rattle.std.proofs.Common.{◌≡◌, ◌∙◌, ap, refl, sym, subst, arith, ℕ, suc, ◌+◌, ◌-◌, ◌<◌, ◌≤◌, ◌^◌, ◌==◌, ◌&&◌, Bool, true, false, not, cond, List, [], ◌∷◌, Option, Some, None, length, map, get_or}
 use Rattle.std.specs.List.{list_all, range_with_len}
 use Rattle.std.specs.Prelude.{position}
+use Rattle.std.proofs.lemmas.List.Elements.{All-cons, All-nil}
 use Rattle.std.proofs.lemmas.Bool.Decides.{nat_tests}
 use Rattle.std.proofs.lemmas.List.Folds.{list_all_at}
 use Rattle.std.proofs.lemmas.List.FromFn.{get_or-map-range_with_len, length-map-range_with_len}
 use Rattle.std.proofs.lemmas.List.Quantifiers.{position-Some}
+use Rattle.st_expression.specs.declared.expression.Expression.{Expression}
 use Rattle.diagram_program.specs.Program.{Drawing, IsWellFormed}
 use Rattle.scan_cycle.specs.Programs.{IsSound, diagram_of}
 use Rattle.scan_cycle.specs.Rung.{Held}
@@ -16,10 +18,13 @@ use Rattle.scan_cycle.proofs.Sizes.{size-given}
 use Rattle.causes_query.specs.Assignment.{bit_of}
 use Rattle.causes_query.specs.Tests.{is_input_variable}
 use Rattle.causes_query.proofs.Asking.{inputs_of}
+use Rattle.assume_truth.specs.Truth.{is_allowed}
+use Rattle.invariant_cases.specs.Assuming.{Assumed, stored_inputs}
+use Rattle.invariant_sets.specs.Invariants.{AllowsGiven, IsGivenAllowed, input_numbers}
 use Rattle.invariant_sets.specs.declared.staying.Staying.{Staying}
 use Rattle.invariant_sets.proofs.ForEver.{begun, begun_apart, holds_begun, scan_begun, standing_holds}
 use Rattle.causes_any_state.specs.Numbers.{HasBits, bit_above}
-use Rattle.causes_any_state.specs.Possible.{AreStatesOf, IsBefore, IsPossible, MayBeOf, MayStay}
+use Rattle.causes_any_state.specs.Possible.{AreStatesOf, IsBefore, MayBeOf, MayStay, SomeLeavesBy}
 use Rattle.invariant_runs.specs.Reached.{reached}
 use Rattle.causes_any_state.specs.declared.before.Before.{Before}
 use Rattle.causes_any_state.specs.declared.before.Before.TheVariants.{Any}
@@ -29,7 +34,8 @@ use Rattle.invariant_runs.proofs.Running.{next, next_fits, next_stands}
 use Rattle.reach_runs.specs.Asking.{is_so}
 use Rattle.reach_runs.specs.declared.target.Literal.{Literal}
 use Rattle.causes_in_runs.specs.Leading.{RunsLead}
-use Rattle.causes_in_runs.specs.Rows.{row_target, value_of}
+use Rattle.causes_in_runs.specs.Rows.{AreAsAssumed, row_target, value_of}
+use Rattle.causes_in_runs.proofs.Assigned.{counted_there, some_leaves}
 use Rattle.causes_in_runs.proofs.Inputs.{input_after}
 
 off_on : false ≡ true → ⊥
@@ -95,7 +101,11 @@ stays_given p s fits standing (Some staying) of stays inputs = record {
   apart = begun_apart p staying.steady staying.apart of.apart s.held stays.apart inputs;
 }
 
-module _ (p : Drawing) (well : IsWellFormed p) (sound : IsSound (diagram_of p)) (coil : ℕ) (listed : List ℕ) (inputs_are : list_all (is_input_variable p) listed ≡ true) (n : ℕ) where
+module _ (p : Drawing) (well : IsWellFormed p) (sound : IsSound (diagram_of p)) (law : AllowsGiven p) (assumed : Option Expression) (coil : ℕ) (listed : List ℕ)
+    (inputs_are : list_all (is_input_variable p) listed ≡ true) (n : ℕ) where
+  abbrev assuming : Assumed
+  assuming = record { inputs = input_numbers p; expression = assumed }
+
   -- ---- the inputs that the scan gives have the bits of the number
   given_bits : (s : Standing) (scan : OneScan) → list_all (is_so (after_scan (diagram_of p) scan.moment scan.inputs s.held)) (row_target coil listed n) ≡ true
       → HasBits listed n (given (diagram_of p).inputs scan.inputs s.held.values)
@@ -118,16 +128,23 @@ module _ (p : Drawing) (well : IsWellFormed p) (sound : IsSound (diagram_of p)) 
           ∙ subst (λ (v : ℕ). get_or after.values v false ≡ bit_of (length listed) i n) same (bit_is coil listed n after on i found.0)
           ∙ some_same _ _ bit
 
+  -- with these inputs what is assumed is true
+  allowed_given : (s : Standing) → Fits p s → (scan : OneScan) → IsGivenAllowed assuming scan
+      → is_allowed assumed (stored_inputs (input_numbers p) (given (diagram_of p).inputs scan.inputs s.held.values)) ≡ true
+  allowed_given s fits scan allowed =
+      (law assuming refl s fits (scan ∷ []) (All-cons (IsGivenAllowed assuming) scan [] allowed (All-nil (IsGivenAllowed assuming)))).0
+
   one_scan : (s : Standing) → Fits p s → IsStanding s → (states : States) → AreStatesOf p states → states.before ≡ Any → MayStay states.staying s.held
-      → (scan : OneScan) → s.moment ≤ scan.moment → scan.moment < 2 ^ 64
-      → list_all (is_so (after_scan (diagram_of p) scan.moment scan.inputs s.held)) (row_target coil listed n) ≡ true → IsPossible p coil listed states n
-  one_scan s fits standing states of any stays scan later small on =
+      → (scan : OneScan) → s.moment ≤ scan.moment → scan.moment < 2 ^ 64 → IsGivenAllowed assuming scan
+      → list_all (is_so (after_scan (diagram_of p) scan.moment scan.inputs s.held)) (row_target coil listed n) ≡ true → SomeLeavesBy assumed p coil listed states true n
+  one_scan s fits standing states of any stays scan later small allowed on =
       let d = diagram_of p in
       let t : Standing = record s { held = begun p scan.inputs s.held } in
-      record {
+      let fits_begun : Fits p t = record { values = size-given d.inputs scan.inputs s.held.values ∙ fits.values; memories = fits.memories; kinds = fits.kinds } in
+      some_leaves assumed p coil listed states n (record {
         state = t;
         moment = scan.moment;
-        fits = record { values = size-given d.inputs scan.inputs s.held.values ∙ fits.values; memories = fits.memories; kinds = fits.kinds };
+        fits = fits_begun;
         standing = record { sound = standing.sound; small = standing.small };
         counts = record {
           before = subst (λ (b : Before). IsBefore b coil t) (sym any) tt;
@@ -138,18 +155,22 @@ module _ (p : Drawing) (well : IsWellFormed p) (sound : IsSound (diagram_of p)) 
         leaves = cause_is p t scan.moment coil listed n (given_bits s scan on)
             ∙ ap (λ (h : Held). get_or h.values coil false) (scan_begun p scan.moment scan.inputs s.held)
             ∙ coil_on coil listed n (after_scan d scan.moment scan.inputs s.held) on;
-      }
+      }) (counted_there assumed p t scan.moment coil listed n fits_begun (given_bits s scan on) (allowed_given s fits scan allowed))
 
   comes : (states : States) → AreStatesOf p states → states.before ≡ Any → (scans : List OneScan) (s : Standing) → Fits p s → IsStanding s
-      → ((more : List OneScan) → IsRun s.moment more → MayStay states.staying (reached p more s).held) → IsRun s.moment scans → 0 < length scans
-      → list_all (is_so (after_each (diagram_of p) scans s.held)) (row_target coil listed n) ≡ true → IsPossible p coil listed states n
+      → ((more : List OneScan) → IsRun s.moment more → AreAsAssumed assumed p more → MayStay states.staying (reached p more s).held)
+      → IsRun s.moment scans → AreAsAssumed assumed p scans → 0 < length scans
+      → list_all (is_so (after_each (diagram_of p) scans s.held)) (row_target coil listed n) ≡ true → SomeLeavesBy assumed p coil listed states true n
   unfolding after_each
-  comes states of any [] s fits standing stays run some on = absurd (omega (arith, some))
-  comes states of any (scan ∷ []) s fits standing stays run some on = one_scan s fits standing states of any (stays [] tt) scan run.0 run.1 on
-  comes states of any (scan ∷ after ∷ more) s fits standing stays run some on =
+  comes states of any [] s fits standing stays run are some on = absurd (omega (arith, some))
+  comes states of any (scan ∷ []) s fits standing stays run are some on =
+      one_scan s fits standing states of any (stays [] tt (All-nil (IsGivenAllowed assuming))) scan run.0 run.1 (are 0 scan (omega arith)) on
+  comes states of any (scan ∷ after ∷ more) s fits standing stays run are some on =
       comes states of any (after ∷ more) (next p scan s) (next_fits p sound scan s fits) (next_stands p sound scan s standing run.0 run.1)
-      (λ rest is. stays (scan ∷ rest) (run.0, run.1, is)) run.2 (omega arith) on
+      (λ rest is also. stays (scan ∷ rest) (run.0, run.1, is) (All-cons (IsGivenAllowed assuming) scan rest (are 0 scan (omega arith)) also))
+      run.2 (λ k d l. are (suc k) d (omega (arith, l))) (omega arith) on
 
-pub runs_lead : (p : Drawing) → IsWellFormed p → IsSound (diagram_of p) → RunsLead p
-runs_lead p well sound s fits standing states of counts coil listed inputs n none scans asked some =
-    must_be_off _ (λ on. none (comes p well sound coil listed inputs n states of counts.any scans s fits standing counts.stays asked.timed some on))
+pub runs_lead : (p : Drawing) → IsWellFormed p → IsSound (diagram_of p) → AllowsGiven p → RunsLead p
+runs_lead p well sound law assumed s fits standing states of counts coil listed inputs n none scans asked some =
+    must_be_off _ (λ on. none (comes p well sound law assumed coil listed inputs n states of counts.any scans s fits standing counts.stays asked.timed
+    (λ k d l. ((asked.given k d l).all, (asked.given k d l).allowed)) some on))

@@ -1,5 +1,5 @@
 -- Private: what the cursor over the runs keeps.
-use Rattle.std.specs.Prelude.{◌≡◌, ◌+◌, length, List, None}
+use Rattle.std.specs.Prelude.{◌≡◌, ◌+◌, length, List, option_map}
 use Rattle.scan_cycle.specs.Programs.{diagram_of}
 use Rattle.scan_cycle.specs.Runs.{OneScan, after_each}
 use Rattle.scan_cycle.specs.Standing.{Fits}
@@ -13,8 +13,8 @@ use Rattle.causes_in_runs.specs.declared.cursor.RunCauses.TheInside.{Inside}
 pub record AreRunBuffers (c : Inside) : Type 0 where
   pub fits : Fits c.causes.program c.state.now
   pub claim : c.causes.claim ≡ Possible
-  pub assumed : c.causes.assumed ≡ None
-  pub counts : AllCount c.causes.program c.state.now c.causes.states
+  pub assumed : c.causes.assumed ≡ option_map (λ e. e.now) c.assumed
+  pub counts : AllCount c.causes.assumed c.causes.program c.state.now c.causes.states
   pub inputs : c.inputs.items ≡ input_variables (diagram_of c.causes.program).inputs
   pub room : length c.target.items ≡ length c.causes.listed + 1
   pub steady : (scans : List OneScan) → IsSo c.steady (after_each (diagram_of c.causes.program) scans c.state.now.held)

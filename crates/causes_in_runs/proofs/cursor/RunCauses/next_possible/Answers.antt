@@ -21,6 +21,6 @@ pub returns-clause-end : goal.returns-clause-end
 returns-clause-end c = λ none.
     let i = c.self.inside in
     let law = subst (λ (p : Drawing). RunsLead p) c.program.ensures c.unreached.ensures in
-    subst (λ (x : RunCursor). AreUnreached x.program x.state x.coil x.listed x.from (2 ^ length x.listed)) c.self.view_is
+    subst (λ (x : RunCursor). AreUnreached x.assumed x.program x.state x.coil x.listed x.from (2 ^ length x.listed)) c.self.view_is
     (none_reached i c.self.invariant c.checked-2.ensures law c.checked.ensures.listable c.checked.ensures.states i.causes.from (2 ^ length i.causes.listed)
     (c.next.ensures.end none))
