@@ -51,18 +51,19 @@ fn counts_of(expressions: u64, list: &[Finding]) -> ListCounts
     let same = tally.same as u64;
     let differs = tally.differs as u64;
     let unsettled = tally.unsettled as u64;
+    let is_equivalent = false;
     match expressions {
         0 => ListCounts::Verdicts {
             same,
             differs,
             unsettled,
-            is_equivalent: false,
+            is_equivalent,
         },
         assumed => ListCounts::AssumedVerdicts {
             same,
             differs,
             unsettled,
-            is_equivalent: false,
+            is_equivalent,
             assumed,
         },
     }
