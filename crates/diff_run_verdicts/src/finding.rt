@@ -120,12 +120,12 @@ fn find_known(alloc: Global, known: KnownAlike<'_>, limits: Limits) -> Result<Ru
 /// # Errors
 ///
 /// `Memory` when out of memory.
-pub fn find_all(
+pub fn find_all<'a>(
     alloc: Global,
-    old: &Program,
-    new: &Program,
-    matching: &Matching,
-    assumed: TwoAssumed<'_>,
+    old: &'a Program,
+    new: &'a Program,
+    matching: &'a Matching,
+    assumed: TwoAssumed<'a>,
     limits: Limits,
 ) -> Result<RunFindings, Memory>
     ensures { IfOk result (AreFoundAssuming (assumptions assumed.entry) matching.now old.now new.now) }
