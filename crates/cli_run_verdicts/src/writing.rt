@@ -13,7 +13,7 @@ use cli_questions::ListCounts;
 use diagram_program::Program;
 use diff_findings::{Compared, Finding, count_verdicts, findings};
 use diff_matching::Matching;
-use diff_meaning::{Counted, Verdicts};
+use diff_meaning::{Counted, CountedStates, Verdicts};
 use diff_run_verdicts::{RunFindings, find_all, verdicts_of};
 use io_text::Sink;
 use reach_search::Limits;
@@ -115,7 +115,7 @@ fn write_told<O: Sink>(
 ) -> Result<ListCounts, ToolFault>
     ensures { WritesTold expressions old.now new.now matching.now verdicts.now (O.log out.old) (O.log out.new) result }
 {
-    let counted = Counted::All;
+    let counted = Counted::of(CountedStates::All);
     let compared = Compared {
         old,
         new,
