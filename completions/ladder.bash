@@ -36,7 +36,7 @@ _ladder() {
     fi
     case $subcommand in
         causes) options='--state --at --after --upto --limit --scans --for --every --assume --assumed --grouped --terms --st --order --any --off --must --reachable --looks --runs --states --relevant --all-inputs --all-coils --progress --quiet --aliases --why --help' ;;
-        show) options='--state --at --number --html --stimulus --coil --all-inputs --aliases --why --help' ;;
+        show) options='--state --at --number --assume --assumed --html --stimulus --coil --all-inputs --aliases --why --help' ;;
         sim) options='--state --save --every --watch --watch-all --changes --expect --progress --vcd --aliases --why --help' ;;
         check) options='--warn --aliases --why --help' ;;
         uses) options='--aliases --why --help' ;;

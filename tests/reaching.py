@@ -28,13 +28,13 @@ from collections import Counter
 from typing import NamedTuple
 
 import differential
-from assuming import random_expression, truth, words_of, written
+from assuming import counts_end, random_expression, truth, words_of, written
 from model import OUTPUTS, Program
 from running import Running
 from transcript import content, parts, run
 
 HERE = pathlib.Path(__file__).resolve().parent.parent
-ANSWER = re.compile(r"(run|none|unsettled)(?: scans (\d+))? states \d+(?: assumed 1)?\n")
+ANSWER = re.compile(r"(run|none|unsettled)(?: scans (\d+))? states \d+(?: assumed 1\n(?:assume 1 is always true\n)?|\n)")
 TIMERS = ("TON", "TOF", "TP")
 COMMENT = re.compile(r"\(\*.*?\*\)|//[^\n]*", re.DOTALL)
 NOW, MOST_STATES, RHYTHMS = 10 ** 9, 400, (1, 3, 10)
@@ -308,8 +308,8 @@ def check_drawing(tool, folder, seed, tally):
         if is_so == "wrong" or verdict == "run" and not (is_kept and is_right(program, one, records, scans, every)):
             tally["different"] += 1
             print(text, f"seed {seed}: {' '.join([*words, *one])}: {verdict} {scans}, the first after {states.first[one]}", sep="\n", flush=True)
-    if every is None and assumed is True:
-        for row, is_so in check_rows(tool, folder, chance, states):
+    if every is None:
+        for row, is_so in check_rows(tool, folder, chance, states, [] if assumed is True else words[-1:]):
             tally[f"rows: {is_so}"] += 1
             if is_so == "wrong":
                 tally["different"] += 1
@@ -321,7 +321,7 @@ def check_assumed(tool, folder, text, seed, states, words, tally):
     answers = {}
     for options in ([], ["--off"], ["--pairs"]):
         answers[" ".join(options)] = out, err, status = run(tool, ["never", *options, *words[-1:], "program.ld"], folder)
-        is_right = (status == 0) == bool(states.inputs) and (err.endswith(b" assumed 1\n") if status == 0 else (out, err) == (b"", b"fault C9\n"))
+        is_right = (status == 0) == bool(states.inputs) and (err.endswith(counts_end([states.assumed]).encode()) if status == 0 else (out, err) == (b"", b"fault C9\n"))
         if not is_right:
             tally["different"] += 1
             print(text, f"seed {seed}: never {options} {words[-1:]}: {err!r}", sep="\n", flush=True)
@@ -342,13 +342,14 @@ def check_assumed(tool, folder, text, seed, states, words, tally):
     return True
 
 
-def check_rows(tool, folder, chance, states):
-    """What the rows of some coils are, of which each assignment either has a run or none; `wrong` where they can't be so."""
+def check_rows(tool, folder, chance, states, assumed):
+    """What the rows of some coils are, of which each assignment either has a run or none, with what is assumed of its scans; `wrong` where they
+    can't be so."""
     program = states.program
     coils = [name for name in names_of(program) if name in program.variables]
     for coil in coils:
         listed = chance.sample(program.inputs, chance.randint(0, len(program.inputs)))
-        words = ["causes", "--any", "--runs", *chance.choice([[], ["--reachable"]]), "program.ld", coil, *listed]
+        words = ["causes", "--any", "--runs", *assumed, *chance.choice([[], ["--reachable"]]), "program.ld", coil, *listed]
         out = run(tool, words, folder)[0].decode().splitlines()
         rows = dict((tuple(fields[2:]), fields[1]) for fields in (line.split(",") for line in out[1:]))
         comes = {tuple("01"[values[name]] for name in listed) for values in map(dict, states.after) if values[coil]}

@@ -18,6 +18,9 @@ In docs/develop/changing also, where a name is a quoted word that is no path, no
 A path is one as above, a file alone (`file.rt`, any of that name), or a folder or a crate (any file in it). A name that no definition
 in crates/ has (a variant, a field, a name of a script), the last word of `Type::name`, and a name beside a file that is no source must
 only be a word of one of the files.
+
+Without files it also looks for the names that callers of `ladder_tool` are promised (PROMISED). Those of the other public crates are in
+crates/test_calls, where the compiler looks for them.
 """
 import functools
 import pathlib
@@ -30,6 +33,7 @@ CRATE_NAMES = {path.name for path in CRATES.iterdir()}
 FOLDERS = ("tests", "docs", "bench", "man", "examples", "completions", "share", "tools", "bin")
 # words that are in no file of the tree: of the toolchain, of examples of changes, and files at the top
 OTHER = {"Makefile", "MissingCases", "RETAIN", "IsEmpty", "diff"}
+PROMISED = {"Request", "TextKind", "Texts", "ToolFault", "WordFault", "perform", "read_words", "run", "write_fault"}
 COMMANDS = {"causes", "diff", "never", "reach", "show", "sim", "uses", "check", "draw", "export", "import", "explain"}
 WORD = re.compile(r"[A-Za-z_][A-Za-z0-9_]{2,}")
 SPAN = r"`[^`]+`"
@@ -173,11 +177,17 @@ def links_missed(path, text):
             yield target
 
 
+def promised_missed():
+    text = (CRATES / "ladder_tool" / "src" / "lib.rt").read_text("utf-8")
+    exported = {name.strip() for names in re.findall(r"^pub use \w+::\{([^}]*)\};", text, re.M) for name in names.split(",")}
+    yield from (f"crates/ladder_tool: no name {name}" for name in sorted(PROMISED - exported))
+
+
 def main():
     chosen = [pathlib.Path(name).resolve() for name in sys.argv[1:]]
     chosen = chosen or sorted([*(ROOT / "docs/develop").rglob("*.md"), *(ROOT / "docs/proof").rglob("*.md")])
     words = frozenset().union(*map(words_of, files()))
-    missed = []
+    missed = [] if sys.argv[1:] else list(promised_missed())
     for path in chosen:
         text, name = path.read_text("utf-8"), path.relative_to(ROOT)
         missed += [f"{name}: no file {target}" for target in links_missed(path, text)]

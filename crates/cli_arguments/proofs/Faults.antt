@@ -5,7 +5,7 @@ use Rattle.std.proofs.lemmas.Bool.{both_ways}
 use Rattle.std.proofs.lemmas.Slice.Eq.{bytes_eq-Decides}
 use Rattle.clap.specs.Words.{Row, Text, all_of, first_of}
 use Rattle.cli_options.specs.Pages.{is_fault_code}
-use Rattle.cli_arguments.specs.Asking.{Asks, AsksNone, HasCoil, HasControl, HasEvery, HasExcluded, HasFlag, HasForm, HasGrouping, HasInputs, HasLanguage, HasLasting, HasNoTask, HasNumber, HasOption, HasOrder, HasPace, HasRuns, HasScans, HasSwitch, HasWatched, IsNamed, IsOfOneState, IsPlain, IsPlainTrace, IsSingle, IsTable, IsWhole, MayGroup, MayHaveLimit, NamesCauses, NamesList, NamesTrace, NamesWatch, input_texts, inputs_for}
+use Rattle.cli_arguments.specs.Asking.{Asks, AsksNone, HasCoil, HasControl, HasEvery, HasExcluded, HasFlag, HasForm, HasGrouping, HasInputs, HasLanguage, HasLasting, HasMedium, HasNoTask, HasNumber, HasOption, HasOrder, HasPace, HasRuns, HasScans, HasSwitch, HasWatched, IsNamed, IsOfOneState, IsPlain, IsPlainTrace, IsSingle, IsTable, IsWhole, MayGroup, MayHaveLimit, NamesAssumptions, NamesCauses, NamesList, NamesTrace, NamesWatch, input_texts, inputs_for}
 use Rattle.cli_arguments.specs.Parts.{IsOfAnyState, IsOfOneScan, IsOfRecords, IsUncut, MayLast, NamesNoDiff, NamesNoDiffRuns, NamesNoEnd, NamesNoRuns, NamesNoStates, NamesNoVerdicts, NamesScan, Plays}
 use Rattle.cli_arguments.specs.Faults.{UsageWhere}
 use Rattle.cli_arguments.specs.declared.request.GroupFormat.{GroupFormat}
@@ -23,6 +23,8 @@ use Rattle.cli_arguments.specs.declared.request.ExpectRequest.{ExpectRequest}
 use Rattle.cli_arguments.specs.declared.request.ExportRequest.{ExportRequest}
 use Rattle.cli_arguments.specs.declared.request.ImportRequest.{ImportRequest}
 use Rattle.cli_arguments.specs.declared.request.Language.{Language}
+use Rattle.cli_arguments.specs.declared.request.Medium.{Medium}
+use Rattle.cli_arguments.specs.declared.request.Medium.TheVariants as medium
 use Rattle.cli_arguments.specs.declared.request.SimRequest.{SimRequest}
 use Rattle.cli_arguments.specs.declared.request.WatchRequest.{WatchRequest}
 use Rattle.cli_arguments.specs.declared.request.WavesRequest.{WavesRequest}
@@ -479,13 +481,22 @@ no_scan_of_scan rows one none =
     (λ r h. none (record { state = r.state; moment = r.moment; file = r.file; all_inputs = r.all_inputs; inputs = r.inputs }) (h.2, h.3, h.7, h.8))
     (λ r h. let some = h.1 in cc)
 
+-- a drawing is written in one way
+one_medium : (rows : List Row) (m n : Medium) → HasMedium m rows → HasMedium n rows → NamesAssumptions n rows → NamesAssumptions m rows
+one_medium rows medium.Text n is other h = tt
+one_medium rows medium.Page medium.Page is other h = h
+one_medium rows medium.Page medium.Text is other h = absurd (other is)
+
+pub no_scan_of_page : (rows : List Row) → HasOption (codes "stimulus") rows None → (m : Medium) → HasMedium m rows → (NamesAssumptions m rows → ⊥) → AsksNone (codes "show") rows
+no_scan_of_page rows one m is none = only_show rows (λ r h. none (one_medium rows m r.medium is h.5 h.10)) (λ r h. let some = h.1 in cc)
+
 -- the drawings of a stimulus
 pub no_film_of_scan : (rows : List Row) → (HasOption (codes "stimulus") rows None → ⊥) → (IsOfRecords rows → ⊥) → AsksNone (codes "show") rows
-no_film_of_scan rows some none = only_show rows (λ r h. some h.1) (λ r h. none (h.2, h.3, h.4))
+no_film_of_scan rows some none = only_show rows (λ r h. some h.1) (λ r h. none (h.2, h.3, h.4, h.5))
 
 pub no_film_of_waves : (rows : List Row) → (HasOption (codes "stimulus") rows None → ⊥) → ((w : Played) → Plays rows w → ⊥) → AsksNone (codes "show") rows
 no_film_of_waves rows some none =
-    only_show rows (λ r h. some h.1) (λ r h. none (record { state = r.state; file = r.file; stimulus = r.stimulus }) (h.5, h.8, h.1))
+    only_show rows (λ r h. some h.1) (λ r h. none (record { state = r.state; file = r.file; stimulus = r.stimulus }) (h.6, h.9, h.1))
 
 -- the trace of a stimulus, and what is watched besides
 pub no_trace : (rows : List Row) → (HasFlag (codes "vcd") rows → ⊥) → HasOption (codes "expect") rows None → IsPlainTrace rows

@@ -111,9 +111,14 @@ HasAssumed rows texts = unwrap_or (all_of (codes "assume") rows) [] ≡ texts
 abbrev pub AssumesNothing : List Row → Type 0
 AssumesNothing rows = HasOption (codes "assume") rows None × (HasFlag (codes "assumed") rows → ⊥)
 
--- Each state counts, some one is to leave the coil ON, each cause has a row of its own, and nothing is assumed of inputs.
+-- A page doesn't name what is assumed, so nothing is.
+abbrev pub NamesAssumptions : Medium → List Row → Type 0
+NamesAssumptions medium.Text rows = ⊤
+NamesAssumptions medium.Page rows = AssumesNothing rows
+
+-- Each state counts, some one is to leave the coil ON, and each cause has a row of its own.
 abbrev pub IsPlain : List Row → Type 0
-IsPlain rows = (HasFlag (codes "off") rows → ⊥) × (HasFlag (codes "must") rows → ⊥) × (HasFlag (codes "grouped") rows → ⊥) × AssumesNothing rows
+IsPlain rows = (HasFlag (codes "off") rows → ⊥) × (HasFlag (codes "must") rows → ⊥) × (HasFlag (codes "grouped") rows → ⊥)
 
 -- Which runs are to come to the rows of any state: none where no word asks for them, and then no state is named in which they begin, and no number of states to keep.
 abbrev pub HasRuns : Option RunsWanted → List Row → Type 0
@@ -341,11 +346,14 @@ Asks name rows (Show r) = (name ≡ codes "show")
     × HasOption (codes "coil") rows (option_map string_bytes r.coil)
     × HasText (codes "file") rows (string_bytes r.file)
     × HasInputs rows r.all_inputs (map string_bytes r.inputs.items)
+    × HasAssumed rows (map string_bytes r.assumed.items)
+    × NamesAssumptions r.medium rows
 Asks name rows (Film r) = (name ≡ codes "show")
     × HasOption (codes "stimulus") rows (Some (string_bytes r.stimulus))
     × HasNumber (codes "at") rows None
     × HasNumber (codes "number") rows None
     × HasInputs rows false []
+    × AssumesNothing rows
     × HasOption (codes "state") rows (option_map string_bytes r.state)
     × HasMedium r.medium rows
     × HasOption (codes "coil") rows (option_map string_bytes r.coil)
@@ -430,7 +438,7 @@ NamesDiff rows r = HasOption (codes "state") rows (option_map string_bytes r.sta
     × HasAssumed rows (map string_bytes r.assumed.items)
     × HasSwitch (codes "assumed") rows r.takes_comments
 
--- Nothing is asked of given scans: no state, no moment, not how many scans there are, no part or form of a list, and nothing is assumed of inputs.
+-- Nothing is asked of given scans: no state, no moment, not how many scans there are, no part or form of a list.
 abbrev pub NamesNoScan : List Row → Type 0
 NamesNoScan rows = HasOption (codes "state") rows None
     × HasOption (codes "new-state") rows None
@@ -439,7 +447,6 @@ NamesNoScan rows = HasOption (codes "state") rows None
     × IsSingle rows
     × HasNoPart rows
     × IsTable rows
-    × AssumesNothing rows
 
 -- what a comparison of two programs name by name names: no coil, no inputs
 abbrev pub NamesVerdicts : List Row → VerdictRequest → Type 0
@@ -455,6 +462,8 @@ NamesVerdicts rows r = HasOption (codes "coil") rows None
     × HasText (codes "new") rows (string_bytes r.new)
     × HasSwitch (codes "aliases") rows r.aliases
     × HasSwitch (codes "why") rows r.why
+    × HasAssumed rows (map string_bytes r.assumed.items)
+    × HasSwitch (codes "assumed") rows r.takes_comments
 
 -- what a comparison of the runs of two programs name by name names: no coil, no inputs
 abbrev pub NamesDiffRuns : List Row → DiffRunsRequest → Type 0
@@ -471,6 +480,8 @@ NamesDiffRuns rows r = HasOption (codes "coil") rows None
     × HasText (codes "new") rows (string_bytes r.new)
     × HasSwitch (codes "aliases") rows r.aliases
     × HasSwitch (codes "why") rows r.why
+    × HasAssumed rows (map string_bytes r.assumed.items)
+    × HasSwitch (codes "assumed") rows r.takes_comments
 
 -- the subcommand's name and values ask for no request
 abbrev pub AsksNone : Text → List Row → Type 0

@@ -28,9 +28,9 @@ Plays rows w = HasOption (codes "state") rows (option_map string_bytes w.state)
     × HasText (codes "file") rows (string_bytes w.file)
     × HasText (codes "stimulus") rows (string_bytes w.stimulus)
 
--- Each record of a stimulus has its own moment and inputs, so none are given besides.
+-- Each record of a stimulus has its own moment and inputs, so none are given besides, and nothing is assumed of them.
 abbrev pub IsOfRecords : List Row → Type 0
-IsOfRecords rows = HasNumber (codes "at") rows None × HasNumber (codes "number") rows None × HasInputs rows false []
+IsOfRecords rows = HasNumber (codes "at") rows None × HasNumber (codes "number") rows None × HasInputs rows false [] × AssumesNothing rows
 
 -- No number is given to end at, and no line is asked for that tells up to which one a list is written.
 abbrev pub NamesNoEnd : List Row → Type 0
@@ -77,18 +77,14 @@ HasPrograms rows p = HasText (codes "old") rows (string_bytes p.old)
     × HasOption (codes "state") rows (option_map string_bytes p.state)
     × HasOption (codes "new-state") rows (option_map string_bytes p.new_state)
 
--- There are no groups, and nothing is assumed of inputs.
-abbrev pub NamesNoGroups : List Row → Type 0
-NamesNoGroups rows = (HasFlag (codes "grouped") rows → ⊥) × AssumesNothing rows
-
--- Nothing is asked of given scans, there are no groups, and nothing is assumed of inputs.
+-- Nothing is asked of given scans, and there are no groups.
 abbrev pub NamesNoScans : List Row → Type 0
 NamesNoScans rows = HasOption (codes "state") rows None
     × HasOption (codes "new-state") rows None
     × HasNumber (codes "at") rows None
     × HasNumber (codes "limit") rows None
     × IsOfOneScan rows
-    × NamesNoGroups rows
+    × (HasFlag (codes "grouped") rows → ⊥)
 
 -- no comparison is named
 abbrev pub NamesNoDiff : List Row → Type 0

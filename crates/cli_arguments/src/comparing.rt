@@ -3,13 +3,13 @@
 ghost use Rattle.std.specs.Prelude.{◌≡◌, [], true, false, codes, IfOk, IfErr, None, Some};
 ghost use Rattle.clap.specs.Words.{found_of, rows_of};
 ghost use Rattle.cli_arguments.specs.Asking.{HasDiffForm, HasFlag, HasInputs, HasLasting, HasNoTask, HasOption, HasTask, IsTable, NamesDiff, NamesDiffRuns, NamesNoRunSearch, NamesNoScan, NamesNoSearch, NamesVerdicts};
-ghost use Rattle.cli_arguments.specs.Parts.{HasPrograms, MayLast, NamesNoDiff, NamesNoDiffRuns, NamesNoGroups, NamesNoScans, NamesNoVerdicts};
+ghost use Rattle.cli_arguments.specs.Parts.{HasPrograms, MayLast, NamesNoDiff, NamesNoDiffRuns, NamesNoScans, NamesNoVerdicts};
 ghost use Rattle.cli_arguments.specs.Faults.{UsageWhere};
 
 use crate::found::{is_given, is_set, number, optional, text, texts};
 use crate::grouping::{grouping_of, refuse_grouping};
 use crate::lasting::{Lasting, count, lasting_of};
-use crate::parts::{InputNames, assumes, every_of, inputs_of, is_counted, is_part};
+use crate::parts::{InputNames, every_of, inputs_of, is_counted, is_part};
 use crate::request::{DiffForm, DiffRequest, DiffRunsRequest, Task, VerdictRequest, WordFault};
 use crate::showing::lists_inputs;
 use clap::ArgMatches;
@@ -143,15 +143,7 @@ fn diff_request(alloc: Global, found: &ArgMatches<'_>) -> Result<DiffRequest, Wo
     })
 }
 
-/// Whether groups are asked for, or something is assumed of inputs.
-fn is_grouped_or_assumed(found: &ArgMatches<'_>) -> bool
-    ensures none { result ≡ false → NamesNoGroups (rows_of (found_of found.now)) }
-    ensures some { result ≡ true → NamesNoGroups (rows_of (found_of found.now)) → ⊥ }
-{
-    is_set(found, "grouped") || assumes(found)
-}
-
-/// Whether given scans are asked of, or a part of a list, or something is assumed of inputs.
+/// Whether given scans are asked of, or a part or groups of a list.
 fn names_scan(found: &ArgMatches<'_>) -> bool
     ensures none { result ≡ false → NamesNoScans (rows_of (found_of found.now)) }
     ensures some { result ≡ true → NamesNoScans (rows_of (found_of found.now)) → ⊥ }
@@ -161,7 +153,7 @@ fn names_scan(found: &ArgMatches<'_>) -> bool
         || is_given(found, "at")
         || is_given(found, "limit")
         || is_counted(found)
-        || is_grouped_or_assumed(found)
+        || is_set(found, "grouped")
 }
 
 /// Whether runs are asked of, or a number of states that a search keeps is named.
@@ -211,6 +203,7 @@ fn verdict_request(alloc: Global, found: &ArgMatches<'_>) -> Result<VerdictReque
     let save = optional(alloc, found, "save")?;
     let old = text(alloc, found, "old")?;
     let new = text(alloc, found, "new")?;
+    let assumed = texts(alloc, found, "assume")?;
     Ok(VerdictRequest {
         looks,
         reachable: is_set(found, "reachable"),
@@ -220,6 +213,8 @@ fn verdict_request(alloc: Global, found: &ArgMatches<'_>) -> Result<VerdictReque
         new,
         aliases: is_set(found, "aliases"),
         why: is_set(found, "why"),
+        assumed,
+        takes_comments: is_set(found, "assumed"),
     })
 }
 
@@ -239,6 +234,7 @@ fn runs_request(alloc: Global, found: &ArgMatches<'_>) -> Result<DiffRunsRequest
     let save = optional(alloc, found, "save")?;
     let old = text(alloc, found, "old")?;
     let new = text(alloc, found, "new")?;
+    let assumed = texts(alloc, found, "assume")?;
     Ok(DiffRunsRequest {
         states,
         save,
@@ -247,6 +243,8 @@ fn runs_request(alloc: Global, found: &ArgMatches<'_>) -> Result<DiffRunsRequest
         new,
         aliases: is_set(found, "aliases"),
         why: is_set(found, "why"),
+        assumed,
+        takes_comments: is_set(found, "assumed"),
     })
 }
 

@@ -150,6 +150,8 @@ pub struct ShowRequest {
     pub all_inputs: bool,
     /// The names of the listed inputs, the first one most significant.
     pub inputs: Vec<String>,
+    /// The expressions of the inputs that are assumed to be true, in the order given.
+    pub assumed: Vec<String>,
 }
 
 /// What a request for the drawings of a stimulus names.
@@ -343,6 +345,10 @@ pub struct VerdictRequest {
     pub aliases: bool,
     /// Whether a fault is explained, after its line.
     pub why: bool,
+    /// The expressions of the inputs that are assumed to be true, in the order given.
+    pub assumed: Vec<String>,
+    /// Whether what comments of each program text assume of its inputs is assumed too.
+    pub takes_comments: bool,
 }
 
 /// What a request names for what two programs do differently in runs from their fresh states, name by name.
@@ -362,6 +368,10 @@ pub struct DiffRunsRequest {
     pub aliases: bool,
     /// Whether a fault is explained, after its line.
     pub why: bool,
+    /// The expressions of the inputs that are assumed to be true in each scan, in the order given.
+    pub assumed: Vec<String>,
+    /// Whether what comments of each program text assume of its inputs is assumed too.
+    pub takes_comments: bool,
 }
 
 /// What a request for the program text of a project names.

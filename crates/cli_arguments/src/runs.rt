@@ -7,7 +7,6 @@ ghost use Rattle.cli_arguments.specs.Parts.{NamesNoRuns};
 ghost use Rattle.cli_arguments.specs.Faults.{UsageWhere};
 
 use crate::found::{is_given, is_set, number, optional};
-use crate::parts::assumes;
 use crate::request::{RunsWanted, WordFault};
 use clap::ArgMatches;
 use std::alloc::Global;
@@ -53,10 +52,10 @@ fn names_runs(found: &ArgMatches<'_>) -> bool
     is_given(found, "state") || is_given(found, "states")
 }
 
-/// Whether nothing says that a coil is OFF before, that every state is to leave it ON, that rows are groups, or what is assumed of inputs.
+/// Whether nothing says that a coil is OFF before, that every state is to leave it ON, or that rows are groups.
 fn is_plain(found: &ArgMatches<'_>) -> bool
     ensures plain { result ≡ true → IsPlain (rows_of (found_of found.now)) }
     ensures other { result ≡ false → IsPlain (rows_of (found_of found.now)) → ⊥ }
 {
-    !(is_set(found, "off") || is_set(found, "must") || is_set(found, "grouped") || assumes(found))
+    !(is_set(found, "off") || is_set(found, "must") || is_set(found, "grouped"))
 }

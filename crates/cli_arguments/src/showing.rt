@@ -2,12 +2,12 @@
 
 ghost use Rattle.std.specs.Prelude.{◌≡◌, [], true, false, codes, IfOk, IfErr, None};
 ghost use Rattle.clap.specs.Words.{Text, found_of, rows_of};
-ghost use Rattle.cli_arguments.specs.Asking.{Asks, AsksNone, HasInputs, HasMedium, HasOption, input_texts};
+ghost use Rattle.cli_arguments.specs.Asking.{Asks, AsksNone, HasInputs, HasMedium, HasOption, NamesAssumptions, input_texts};
 ghost use Rattle.cli_arguments.specs.Parts.{IsOfRecords};
 ghost use Rattle.cli_arguments.specs.Faults.{UsageWhere};
 
-use crate::found::{is_given, is_set, number, optional};
-use crate::parts::{NamedScan, scan_of};
+use crate::found::{is_given, is_set, number, optional, texts};
+use crate::parts::{NamedScan, assumes, scan_of};
 use crate::request::{FilmRequest, Medium, Request, ShowRequest, WordFault};
 use crate::simulating::{Played, played_of};
 use clap::ArgMatches;
@@ -30,9 +30,11 @@ fn scan_request(alloc: Global, found: &ArgMatches<'_>) -> Result<Request, WordFa
     ensures ok { IfOk result (Asks (codes "show") (rows_of (found_of found.now))) }
     ensures err { IfErr result (UsageWhere (AsksNone (codes "show") (rows_of (found_of found.now)))) }
 {
-    let number = number(found, "number")?;
     let medium = medium_of(found);
+    check_page(medium, found)?;
+    let number = number(found, "number")?;
     let coil = optional(alloc, found, "coil")?;
+    let assumed = texts(alloc, found, "assume")?;
     let NamedScan {
         state,
         moment,
@@ -49,7 +51,24 @@ fn scan_request(alloc: Global, found: &ArgMatches<'_>) -> Result<Request, WordFa
         file,
         all_inputs,
         inputs,
+        assumed,
     }))
+}
+
+/// Refuses what is assumed of inputs where a page is asked for, which doesn't name it.
+fn check_page(medium: Medium, found: &ArgMatches<'_>) -> Result<(), WordFault>
+    ensures ok { IfOk result (λ u. NamesAssumptions medium (rows_of (found_of found.now))) }
+    ensures err { IfErr result (UsageWhere (NamesAssumptions medium (rows_of (found_of found.now)) → ⊥)) }
+{
+    match medium {
+        Medium::Text => Ok(()),
+        Medium::Page => {
+            if assumes(found) {
+                return Err(WordFault::Usage);
+            }
+            Ok(())
+        }
+    }
 }
 
 /// The request for the film of a stimulus, which takes its moments and inputs from the records.
@@ -78,12 +97,12 @@ fn film_request(alloc: Global, found: &ArgMatches<'_>) -> Result<Request, WordFa
     }))
 }
 
-/// Whether one scan is described: by a moment, a number or inputs.
+/// Whether one scan is described: by a moment, a number or inputs, or something is assumed of it.
 fn names_scan(found: &ArgMatches<'_>) -> bool
     ensures none { result ≡ false → IsOfRecords (rows_of (found_of found.now)) }
     ensures some { result ≡ true → IsOfRecords (rows_of (found_of found.now)) → ⊥ }
 {
-    is_given(found, "at") || is_given(found, "number") || lists_inputs(found)
+    is_given(found, "at") || is_given(found, "number") || lists_inputs(found) || assumes(found)
 }
 
 /// Whether inputs are listed.

@@ -1,5 +1,6 @@
 -- How a comparison ends that may assume something of the inputs: its list is that of the combinations with which it is true in both programs.
-use Rattle.std.specs.Prelude.{◌≡◌, ◌⊎◌, ◌++◌, ◌+◌, ◌&&◌, ◌==◌, not, ℕ, Bool, true, false, List, [], Option, None, Some, length, map, string_bytes}
+use Rattle.std.specs.Prelude.{◌≡◌, ◌⊎◌, ◌++◌, ◌+◌, ◌&&◌, ◌==◌, not, ℕ, Bool, true, false, List, [], Option, None, Some, String, length, map, string_bytes}
+use Rattle.std.specs.Global.{Global}
 use Rattle.st_expression.specs.declared.expression.Expression.{Expression}
 use Rattle.diagram_declarations.specs.Decls.{Declared}
 use Rattle.causes_query.specs.Causes.{Question}
@@ -22,6 +23,7 @@ use Rattle.cli_inputs.specs.Setting.{Given}
 use Rattle.cli_questions.specs.Ending.{BreaksOff, Ends, counts_line, unless_quiet}
 use Rattle.cli_assumed.specs.Assumed.{HasAssumptionFault}
 use Rattle.cli_diff.specs.Asking.{AreAsked}
+use Rattle.cli_diff.specs.declared.assuming.Assumes as passed
 use Rattle.cli_diff.specs.Assumed.{AssumedList, Assumption, IsEverTrueInBoth, IsNeverTrueInBoth, assumed_counts, assumed_for, assumed_text}
 use Rattle.cli_diff.specs.Ending.{BreaksDiff, CountsDiff}
 use Rattle.cli_diff.specs.Faults.{HasDiffFault, HasOwnFaultOf, IsRefusedOf, new_refusal, old_refusal, words_of}
@@ -33,21 +35,36 @@ abbrev pub AreTaken : (takes : Bool) → (program : List ℕ) → (comments : Li
 AreTaken true program comments = AreAssumed program comments
 AreTaken false program comments = comments ≡ []
 
+-- What a request of two programs assumes: its expressions, and whether those of comments count too.
+pub record Assumes : Type 0 where
+  pub expressions : List (String Global)
+  pub takes_comments : Bool
+
+-- Private: as it is passed on.
+abbrev pub assumes_in : passed.Assumes → Assumes
+assumes_in a = record { expressions = a.expressions.now; takes_comments = a.takes_comments }
+
+abbrev pub assumes_of : DiffRequest → Assumes
+assumes_of r = record { expressions = r.assumed.items; takes_comments = r.takes_comments }
+
 -- the expressions that are assumed of a program: those of its comments, and then those of the request
-abbrev pub expressions_of : DiffRequest → (comments : List (List ℕ)) → List (List ℕ)
-expressions_of r comments = comments ++ map string_bytes r.assumed.items
+abbrev pub expressions_of : Assumes → (comments : List (List ℕ)) → List (List ℕ)
+expressions_of w comments = comments ++ map string_bytes w.expressions
 
 -- They are read by the names of the program.
-abbrev pub IsAssumedOf : DiffRequest → (program : List ℕ) → Declared → (comments : List (List ℕ)) → Option Expression → Type 0
-IsAssumedOf r program decls comments assumed = AreTaken r.takes_comments program comments × AreAssumptions decls (expressions_of r comments) assumed
+abbrev pub IsAssumedOf : Assumes → (program : List ℕ) → Declared → (comments : List (List ℕ)) → Option Expression → Type 0
+IsAssumedOf w program decls comments assumed = AreTaken w.takes_comments program comments × AreAssumptions decls (expressions_of w comments) assumed
 
 -- The expressions are counted once: those of the comments of both programs, and those of the request.
-pub record IsAssumedOfBoth (g h : Given) (r : DiffRequest) (old new : Question) (a : Assumption) : Type 0 where
+pub record IsAssumedOfTwo (g h : Given) (w : Assumes) (old new : Declared) (a : Assumption) : Type 0 where
   pub old_comments : List (List ℕ)
   pub new_comments : List (List ℕ)
-  pub of_old : IsAssumedOf r g.program old.program.decls old_comments a.old
-  pub of_new : IsAssumedOf r h.program new.program.decls new_comments a.new
-  pub counted : a.expressions ≡ length old_comments + (length new_comments + length r.assumed.items)
+  pub of_old : IsAssumedOf w g.program old old_comments a.old
+  pub of_new : IsAssumedOf w h.program new new_comments a.new
+  pub counted : a.expressions ≡ length old_comments + (length new_comments + length w.expressions)
+
+abbrev pub IsAssumedOfBoth : Given → Given → DiffRequest → Question → Question → Assumption → Type 0
+IsAssumedOfBoth g h r old new a = IsAssumedOfTwo g h (assumes_of r) old.program.decls new.program.decls a
 
 -- ---- how a list of two questions ends with what is assumed
 
@@ -120,17 +137,19 @@ BreaksAllDiff g h r = BreaksAllBy (assumes_nothing r) g h r
 -- ---- faults
 
 -- The first expression of a program that is refused, by its number among those of the program; or being out of memory.
-abbrev pub HasExpressionFault : DiffRequest → (program : List ℕ) → Declared → ToolFault → Type 0
-HasExpressionFault r program decls f = (f ≡ fault.Memory)
-    ⊎ ((comments : List (List ℕ)) × AreTaken r.takes_comments program comments × HasAssumptionFault decls (expressions_of r comments) f)
+abbrev pub HasExpressionFault : Assumes → (program : List ℕ) → Declared → ToolFault → Type 0
+HasExpressionFault w program decls f = (f ≡ fault.Memory)
+    ⊎ ((comments : List (List ℕ)) × AreTaken w.takes_comments program comments × HasAssumptionFault decls (expressions_of w comments) f)
 
 -- Those of the old program are read first, and then those of the new one.
+abbrev pub HasExpressionFaultOfTwo : Option Side → Given → Given → Assumes → Declared → Declared → ToolFault → Type 0
+HasExpressionFaultOfTwo None g h w old new f = ⊥
+HasExpressionFaultOfTwo (Some Old) g h w old new f = HasExpressionFault w g.program old f
+HasExpressionFaultOfTwo (Some New) g h w old new f =
+    ((comments : List (List ℕ)) × (assumed : Option Expression) × IsAssumedOf w g.program old comments assumed) × HasExpressionFault w h.program new f
+
 abbrev pub HasExpressionFaultOf : Option Side → Given → Given → DiffRequest → Question → Question → ToolFault → Type 0
-HasExpressionFaultOf None g h r old new f = ⊥
-HasExpressionFaultOf (Some Old) g h r old new f = HasExpressionFault r g.program old.program.decls f
-HasExpressionFaultOf (Some New) g h r old new f =
-    ((comments : List (List ℕ)) × (assumed : Option Expression) × IsAssumedOf r g.program old.program.decls comments assumed)
-    × HasExpressionFault r h.program new.program.decls f
+HasExpressionFaultOf side g h r old new f = HasExpressionFaultOfTwo side g h (assumes_of r) old.program.decls new.program.decls f
 
 -- What is assumed is never true in both: a fault of neither program alone.
 abbrev pub IsNeverTrueFault : Assumption → Question → Question → Option Side → ToolFault → Type 0

@@ -6,7 +6,7 @@ ghost use Rattle.cli_inputs.specs.declared.fault.ToolFault.TheVariants.{Memory};
 ghost use Rattle.cli_questions.specs.Query.{question_of};
 ghost use Rattle.cli_diff.specs.Assumed.{differences_by, nothing, rows_by};
 ghost use Rattle.cli_diff.specs.Assumed as spec;
-ghost use Rattle.cli_diff.specs.AssumedEnding.{AreTaken, HasExpressionFault, HasExpressionFaultOf, IsAssumedOf, IsAssumedOfBoth, expressions_of};
+ghost use Rattle.cli_diff.specs.AssumedEnding.{AreTaken, HasExpressionFault, HasExpressionFaultOf, HasExpressionFaultOfTwo, IsAssumedOf, IsAssumedOfBoth, IsAssumedOfTwo, assumes_in, expressions_of};
 ghost use Rattle.cli_diff.specs.AssumedEnding as ending;
 
 use crate::asking::DiffQuery;
@@ -31,9 +31,16 @@ pub(crate) struct Assuming<'a> {
     pub expressions: u64,
 }
 
-/// What is assumed of both programs, as it was read.
+/// What a request of two programs assumes of their inputs: these expressions, and whether what comments of each program text assume counts too.
+#[derive(Clone, Copy)]
+pub struct Assumes<'a> {
+    pub expressions: &'a [String],
+    pub takes_comments: bool,
+}
+
+/// What is assumed of both programs, as it was read, and of how many expressions it is made.
 #[derive(Drop)]
-pub(crate) struct ReadAssumed {
+pub struct ReadAssumed {
     pub old: Option<Expression>,
     pub new: Option<Expression>,
     pub expressions: u64,
@@ -112,16 +119,16 @@ fn add_copies(alloc: Global, texts: &mut Vec<String>, others: &[String]) -> Resu
 /// The expressions that are assumed of a program: those of its comments, where the request takes them, and then those of the request.
 fn expressions_in(
     alloc: Global,
-    request: &DiffRequest,
+    assumes: Assumes<'_>,
     program: &[u8],
 ) -> Result<Vec<String>, ToolFault>
-    ensures texts { IfOk result (λ v. (comments : List (List ℕ)) × AreTaken request.now.takes_comments program.now comments × (map string_bytes v.items ≡ expressions_of request.now comments)) }
+    ensures texts { IfOk result (λ v. (comments : List (List ℕ)) × AreTaken assumes.entry.takes_comments program.now comments × (map string_bytes v.items ≡ expressions_of (assumes_in assumes.entry) comments)) }
     ensures fault { IfErr result (λ f. f ≡ Memory) }
 {
-    let Ok(mut texts) = taken_comments(alloc, request.takes_comments, program) else {
+    let Ok(mut texts) = taken_comments(alloc, assumes.takes_comments, program) else {
         return Err(ToolFault::Memory);
     };
-    match add_copies(alloc, &mut texts, request.assumed.as_slice()) {
+    match add_copies(alloc, &mut texts, assumes.expressions) {
         Ok(()) => Ok(texts),
         Err(_) => Err(ToolFault::Memory),
     }
@@ -130,15 +137,15 @@ fn expressions_in(
 /// Reads what is assumed of one program, whose text and declarations these are.
 fn read_of_one(
     alloc: Global,
-    request: &DiffRequest,
+    assumes: Assumes<'_>,
     text: &[u8],
     program: &Program,
 ) -> Result<ReadOfOne, ToolFault>
-    ensures read { IfOk result (λ a. (comments : List (List ℕ)) × IsAssumedOf request.now text.now program.now.decls comments a.assumed × (a.count ≡ length (expressions_of request.now comments))) }
+    ensures read { IfOk result (λ a. (comments : List (List ℕ)) × IsAssumedOf (assumes_in assumes.entry) text.now program.now.decls comments a.assumed × (a.count ≡ length (expressions_of (assumes_in assumes.entry) comments))) }
     ensures few { IfOk result (λ a. a.count < 2 ^ 63) }
-    ensures fault { IfErr result (HasExpressionFault request.now text.now program.now.decls) }
+    ensures fault { IfErr result (HasExpressionFault (assumes_in assumes.entry) text.now program.now.decls) }
 {
-    let texts = match expressions_in(alloc, request, text) {
+    let texts = match expressions_in(alloc, assumes, text) {
         Ok(texts) => texts,
         Err(fault) => return Err(fault),
     };
@@ -151,7 +158,43 @@ fn read_of_one(
     }
 }
 
-/// Reads what is assumed of both programs: of the old one first.
+/// Reads what is assumed of two programs, whose texts these are: of the old one first.
+///
+/// # Errors
+///
+/// The first expression that is refused, and of which program.
+pub fn read_of_both(
+    alloc: Global,
+    assumes: Assumes<'_>,
+    texts: &DiffTexts,
+    old: &Program,
+    new: &Program,
+) -> Result<ReadAssumed, SidedFault>
+    ensures read { IfOk result (λ a. IsAssumedOfTwo (given_by texts.now.old) (given_by texts.now.new) (assumes_in assumes.entry) old.now.decls new.now.decls
+        (record { old = a.old; new = a.new; expressions = a.expressions })) }
+    ensures fault { IfErr result (λ e. HasExpressionFaultOfTwo e.side (given_by texts.now.old) (given_by texts.now.new) (assumes_in assumes.entry) old.now.decls new.now.decls e.fault) }
+{
+    let of_old = match read_of_one(alloc, assumes, texts.old.program.as_slice(), old) {
+        Ok(read) => read,
+        Err(fault) => return Err(of(Side::Old, fault)),
+    };
+    let of_new = match read_of_one(alloc, assumes, texts.new.program.as_slice(), new) {
+        Ok(read) => read,
+        Err(fault) => {
+            drop(of_old);
+            return Err(of(Side::New, fault));
+        }
+    };
+    // Those of the request are among the ones of each program.
+    let expressions = of_old.count + of_new.count - assumes.expressions.len();
+    Ok(ReadAssumed {
+        old: of_old.assumed,
+        new: of_new.assumed,
+        expressions: expressions as u64,
+    })
+}
+
+/// Reads what a comparison of a coil assumes of both programs.
 ///
 /// # Errors
 ///
@@ -166,34 +209,15 @@ pub(crate) fn read_both(
         (record { old = a.old; new = a.new; expressions = a.expressions })) }
     ensures fault { IfErr result (λ e. HasExpressionFaultOf e.side (given_by texts.now.old) (given_by texts.now.new) request.now (question_of asked.now.of_old) (question_of asked.now.of_new) e.fault) }
 {
-    let old = match read_of_one(
-        alloc,
-        request,
-        texts.old.program.as_slice(),
-        &asked.of_old.program,
-    ) {
-        Ok(read) => read,
-        Err(fault) => return Err(of(Side::Old, fault)),
+    let assumes = Assumes {
+        expressions: request.assumed.as_slice(),
+        takes_comments: request.takes_comments,
     };
-    let new = match read_of_one(
-        alloc,
-        request,
-        texts.new.program.as_slice(),
-        &asked.of_new.program,
-    ) {
-        Ok(read) => read,
-        Err(fault) => {
-            drop(old);
-            return Err(of(Side::New, fault));
-        }
-    };
-    // Those of the request are among the ones of each program.
-    let expressions = old.count + new.count - request.assumed.len();
-    Ok(ReadAssumed {
-        old: old.assumed,
-        new: new.assumed,
-        expressions: expressions as u64,
-    })
+    let (old, new) = (&asked.of_old.program, &asked.of_new.program);
+    match read_of_both(alloc, assumes, texts, old, new) {
+        Ok(read) => Ok(read),
+        Err(fault) => Err(fault),
+    }
 }
 
 /// What was read, as the lists take it.

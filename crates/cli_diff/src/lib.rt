@@ -14,6 +14,7 @@ mod telling;
 mod texts;
 
 pub use asking::{DiffQuery, read_query};
+pub use assuming::{Assumes, ReadAssumed, read_of_both};
 pub use comparing::compare;
 pub use files::{DiffReaders, Manner, compare_files, read_texts};
 pub use sided::{SidedFault, of, report};

@@ -96,7 +96,7 @@ causes_app = taking (codes "causes") (
 
 abbrev pub show_app : App
 show_app = taking (codes "show") (
-    text_rule (codes "state") ∷ number_rule (codes "at") ∷ number_rule (codes "number") ∷ flag_rule (codes "html")
+    text_rule (codes "state") ∷ number_rule (codes "at") ∷ number_rule (codes "number") ∷ texts_rule (codes "assume") ∷ flag_rule (codes "assumed") ∷ flag_rule (codes "html")
     ∷ text_rule (codes "stimulus") ∷ text_rule (codes "coil") ∷ flag_rule (codes "all-inputs") ∷ flag_rule (codes "aliases") ∷ flag_rule (codes "why") ∷ place_rule (codes "file") ∷ list_rule (codes "inputs") ∷ []
     )
 

@@ -100,6 +100,8 @@ use crate::help::SCANS_ASSUME_HELP;
 use crate::help::SCANS_ASSUMED_HELP;
 use crate::help::SCANS_HELP;
 use crate::help::SHOW_ABOUT;
+use crate::help::SHOW_ASSUME_HELP;
+use crate::help::SHOW_ASSUMED_HELP;
 use crate::help::SHOWN_HELP;
 use crate::help::SIM_ABOUT;
 use crate::help::SIM_PROGRESS_HELP;
@@ -268,6 +270,8 @@ const SHOW: &[Word] = &[
     Word::Text("state", "STATE", STATE_HELP),
     Word::Number("at", "MS", AT_HELP),
     Word::Number("number", "N", NUMBER_HELP),
+    Word::Texts("assume", "EXPRESSION", SHOW_ASSUME_HELP),
+    Word::Flag("assumed", SHOW_ASSUMED_HELP),
     Word::Flag("html", HTML_HELP),
     Word::Text("stimulus", "STIMULUS", FILM_HELP),
     Word::Text("coil", "COIL", WHY_HELP),

@@ -339,11 +339,11 @@ stores";
 
 pub(crate) const ASSUME_HELP: &str = "Counts only combinations with which EXPRESSION, in
 Structured Text over inputs, is true; may be given
-several times; not with --runs";
+several times";
 
 pub(crate) const ASSUMED_HELP: &str = "Counts only combinations with which each EXPRESSION
 of the comments (* assume: EXPRESSION *) before
-END_VAR is true; not with --runs";
+END_VAR is true";
 
 pub(crate) const SCANS_ASSUME_HELP: &str = "Counts only scans with whose inputs EXPRESSION, in
 Structured Text over inputs, is true; may be given
@@ -353,13 +353,22 @@ pub(crate) const SCANS_ASSUMED_HELP: &str = "Counts only scans with whose inputs
 of the comments (* assume: EXPRESSION *) before
 END_VAR is true";
 
-pub(crate) const DIFF_ASSUME_HELP: &str = "With COIL: counts only combinations with which
-EXPRESSION, in Structured Text over inputs, is true
-in both programs; may be given several times";
+pub(crate) const DIFF_ASSUME_HELP: &str = "Counts only scans with whose inputs EXPRESSION, in
+Structured Text over inputs, is true in both
+programs; may be given several times";
 
-pub(crate) const DIFF_ASSUMED_HELP: &str = "With COIL: counts only combinations with which each
-EXPRESSION of the comments (* assume: EXPRESSION *)
-before END_VAR is true in its program";
+pub(crate) const DIFF_ASSUMED_HELP: &str = "Counts only scans with whose inputs each EXPRESSION
+of the comments (* assume: EXPRESSION *) before
+END_VAR is true in its program";
+
+pub(crate) const SHOW_ASSUME_HELP: &str = "Refuses a combination with which EXPRESSION, in
+Structured Text over inputs, is false, and names it
+above the drawing; may be given several times; not
+with --html or --stimulus";
+
+pub(crate) const SHOW_ASSUMED_HELP: &str = "The same for each EXPRESSION of the comments
+(* assume: EXPRESSION *) before END_VAR; not with
+--html or --stimulus";
 
 pub(crate) const GROUPED_HELP: &str = "Lists the causes in groups: how many each has, and
 - for an input that doesn't matter there; not with
@@ -400,7 +409,7 @@ pub(crate) const RUNS_HELP: &str = "With --any: asks of each row whether a run f
 fresh state, or from STATE, comes to it: marked r
 where one does, left out where none does, 1 or ? as
 before where that isn't settled; not with --off,
---must, --grouped, --assume or --assumed";
+--must or --grouped";
 
 pub(crate) const RUN_STATES_HELP: &str = "With --runs: how many states the search of one row
 keeps at most, up to 4294967295; without it 100000";

@@ -167,7 +167,7 @@ rows 1
 pub(crate) const C9: &str = "\
 C9: what is assumed is never true
 
-With none of the combinations that are listed all expressions of `--assume` and `--assumed` are true, so nothing could be listed, whatever the program does. An input that isn't listed keeps its stored value. With `causes --any`, and of `never` and `reach`, all inputs are open: no values of them make all expressions true. Of `diff` it is that with no combination they are true in both programs.
+With none of the combinations that are listed all expressions of `--assume` and `--assumed` are true, so nothing could be listed, whatever the program does. An input that isn't listed keeps its stored value. With `causes --any`, and of `never`, `reach` and `diff OLD NEW`, all inputs are open: no values of them make all expressions true, of `diff` in both programs. Of `diff` with a coil it is that with no combination they are true in both programs, and of `show` that they aren't with the combination that is to be drawn.
 
 ```console
 $ ladder causes --assume 'Start AND NOT Start' motor.ld Motor Start Stop

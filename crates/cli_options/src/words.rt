@@ -16,7 +16,7 @@ The status is 2. A subcommand, a file, a coil or a name is missing, an option is
 | `--must` | `--any` |  |
 | `--reachable` | `--any` |  |
 | `--looks` | `--any` |  |
-| `--runs` | `--any` | `--off`, `--must`, `--grouped`, `--assume`, `--assumed` |
+| `--runs` | `--any` | `--off`, `--must`, `--grouped` |
 | `--states` | `--runs` |  |
 | `--state` with `--any` | `--runs` |  |
 | `--relevant` |  | `--scans`, `--for`, `--every`, `--upto`, `--progress`, `--all-inputs`, `INPUT` |
@@ -56,15 +56,14 @@ The status is 2. A subcommand, a file, a coil or a name is missing, an option is
 | `--st` | `COIL`, and `--grouped` | `--limit`, `--aliases` |
 | `--order auto` | `COIL`, and `--grouped` |  |
 | `--all-inputs` | `COIL` | `INPUT` |
-| `--assume` | `COIL` |  |
-| `--assumed` | `COIL` |  |
 | `--order` | `--order auto` or `--order given` |  |
 
 `ladder show`:
 
 | | Wants | Excludes |
 |---|---|---|
-| `--stimulus` |  | `--at`, `--number`, `--all-inputs`, `INPUT` |
+| `--stimulus` |  | `--at`, `--number`, `--all-inputs`, `INPUT`, `--assume`, `--assumed` |
+| `--html` |  | `--assume`, `--assumed` |
 | `--all-inputs` |  | `INPUT` |
 
 `ladder sim`:

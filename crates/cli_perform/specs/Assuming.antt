@@ -3,7 +3,7 @@ use Rattle.std.specs.Prelude.{◌≡◌, ◌++◌, ℕ, List, String, Vec, map, 
 use Rattle.std.specs.Global.{Global}
 use Rattle.assume_comments.specs.Comments.{AreAssumed}
 use Rattle.cli_arguments.specs.declared.request.Request.{Request}
-use Rattle.cli_arguments.specs.declared.request.Request.TheVariants.{Causes, Groups, Held, Never, Possible, Progress, Reach, Relevant}
+use Rattle.cli_arguments.specs.declared.request.Request.TheVariants.{Causes, Groups, Held, Never, Possible, Progress, Reach, Relevant, Show}
 
 abbrev pub Expressions : Type 0
 Expressions = Vec (String Global) Global
@@ -12,7 +12,7 @@ Expressions = Vec (String Global) Global
 abbrev pub ArePutFirst : List (List ℕ) → Expressions → Expressions → Type 0
 ArePutFirst texts old new = map string_bytes new.items ≡ texts ++ map string_bytes old.items
 
--- The same request, with these expressions assumed before its own where it has any: of a list of causes, of what never is, and of a run.
+-- The same request, with these expressions assumed before its own where it has any: of a list of causes, of what never is, of a run, and of a scan that is shown.
 abbrev pub IsAssuming : List (List ℕ) → Request → Request → Type 0
 IsAssuming texts (Causes list after upto) new = (all : Expressions) × ArePutFirst texts list.assumed all × (new ≡ Causes (record list { assumed = all }) after upto)
 IsAssuming texts (Progress list after upto) new = (all : Expressions) × ArePutFirst texts list.assumed all × (new ≡ Progress (record list { assumed = all }) after upto)
@@ -22,6 +22,7 @@ IsAssuming texts (Relevant list after grouping) new = (all : Expressions) × Are
 IsAssuming texts (Possible r) new = (all : Expressions) × ArePutFirst texts r.assumed all × (new ≡ Possible (record r { assumed = all }))
 IsAssuming texts (Never r) new = (all : Expressions) × ArePutFirst texts r.assumed all × (new ≡ Never (record r { assumed = all }))
 IsAssuming texts (Reach r) new = (all : Expressions) × ArePutFirst texts r.assumed all × (new ≡ Reach (record r { assumed = all }))
+IsAssuming texts (Show r) new = (all : Expressions) × ArePutFirst texts r.assumed all × (new ≡ Show (record r { assumed = all }))
 IsAssuming texts other new = new ≡ other
 
 -- The same request, with what the comments of the text assume before what it assumes by itself.

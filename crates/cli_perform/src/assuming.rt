@@ -38,8 +38,8 @@ fn assume_all(request: &mut Request, texts: Vec<String>) -> Result<(), AllocErro
         Request::Possible(possible) => put_first(&mut possible.assumed, texts),
         Request::Never(never) => put_first(&mut never.assumed, texts),
         Request::Reach(reach) => put_first(&mut reach.assumed, texts),
+        Request::Show(show) => put_first(&mut show.assumed, texts),
         Request::Check { .. }
-        | Request::Show(_)
         | Request::Film(_)
         | Request::Sim(_)
         | Request::Watch(_)

@@ -20,6 +20,7 @@ mod stream;
 mod telling;
 mod two_texts;
 mod unread;
+mod warning;
 mod witnesses;
 
 pub use assuming::{assume_comments, perform_assuming};

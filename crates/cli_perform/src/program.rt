@@ -2,6 +2,7 @@
 
 ghost use Rattle.std.specs.Prelude.{◌≤◌};
 
+use crate::advised::perform_advised;
 use crate::assuming::perform_assuming;
 use crate::files::perform_files;
 use crate::folder::{run_coils, texts_of};
@@ -11,12 +12,14 @@ use crate::runs::run_runs;
 use crate::saving::{SavedFile, followed};
 use crate::stream::{Standard, Stream};
 use crate::telling::{telling, telling_form};
+use crate::two_texts::refuse_text;
 use crate::unread::Opening;
+use crate::warning::{warn_of, warn_of_both, warned_of};
 use crate::witnesses::run_witnesses;
 use cli_arguments::{
     CommandLine, DiffRequest, Request, SimRequest, Task, VerdictRequest, WordFault, read_words,
 };
-use cli_diff::compare_files;
+use cli_diff::{DiffTexts, Manner, compare, compare_files, read_texts as read_diff_texts};
 use cli_inputs::{Texts, ToolFault, write_fault};
 use cli_options::{codes, page_of};
 use cli_verdicts::judge_files;
@@ -187,19 +190,19 @@ fn run_line(rt: &HostRuntime, alloc: Global, line: &CommandLine) -> u8
 fn run_request(rt: &HostRuntime, alloc: Global, line: &mut CommandLine) -> u8
     ensures { result ≤ 2 }
 {
-    if line.assumed {
+    if line.assumed || !warned_of(&line.request).is_empty() {
         return run_assuming(rt, alloc, line);
     }
     run_line(rt, alloc, line)
 }
 
-/// Performs the request of a command line, with what the comments of its program text assume, over its files and the standard streams.
+/// Performs the request of a command line that assumes something over its files and the standard streams.
 fn run_assuming(rt: &HostRuntime, alloc: Global, line: &mut CommandLine) -> u8
     ensures { result ≤ 1 }
 {
     match texts_of(rt, alloc, line) {
         Ok(texts) => {
-            let status = run_on(rt, alloc, &mut line.request, &texts);
+            let status = run_on(rt, alloc, line, &texts);
             drop(texts);
             status
         }
@@ -207,15 +210,22 @@ fn run_assuming(rt: &HostRuntime, alloc: Global, line: &mut CommandLine) -> u8
     }
 }
 
-/// Performs a request on its texts, with what the comments of the program text assume, over the standard streams.
-fn run_on(rt: &HostRuntime, alloc: Global, request: &mut Request, texts: &Texts) -> u8
+/// Performs a request on its texts over the standard streams, with what the comments of the program text assume where that is asked for, and warns
+/// of what is always true.
+fn run_on(rt: &HostRuntime, alloc: Global, line: &mut CommandLine, texts: &Texts) -> u8
     ensures { result ≤ 1 }
 {
     let standard = Standard::new(rt);
     let mut out = standard.out();
     let mut err = standard.err();
     let mut save = CountedWriter::new(Stream::Nothing);
-    let status = perform_assuming(alloc, request, texts, &mut out, &mut save, &mut err);
+    let request = &mut line.request;
+    let status = if line.assumed {
+        perform_assuming(alloc, request, texts, &mut out, &mut save, &mut err)
+    } else {
+        perform_advised(alloc, request, texts, &mut out, &mut save, &mut err)
+    };
+    let status = warn_of(alloc, status, warned_of(request), texts, &mut err);
     drop(save);
     drop(err);
     drop(out);
@@ -227,6 +237,9 @@ fn run_on(rt: &HostRuntime, alloc: Global, request: &mut Request, texts: &Texts)
 fn run_diff(rt: &HostRuntime, alloc: Global, request: &DiffRequest) -> u8
     ensures { result ≤ 2 }
 {
+    if !request.assumed.is_empty() {
+        return run_diff_assuming(rt, alloc, request);
+    }
     let opening = Opening::new(rt);
     let mut readers = diff_readers_of(&opening, request);
     let standard = Standard::new(rt);
@@ -239,6 +252,47 @@ fn run_diff(rt: &HostRuntime, alloc: Global, request: &DiffRequest) -> u8
     drop(readers);
     opening.explain(request.why);
     drop(opening);
+    status
+}
+
+/// Compares two programs with what is assumed, and warns of what is always true.
+fn run_diff_assuming(rt: &HostRuntime, alloc: Global, request: &DiffRequest) -> u8
+    ensures { result ≤ 2 }
+{
+    let manner = Manner {
+        why: request.why,
+        aliases: request.aliases,
+    };
+    let opening = Opening::new(rt);
+    let mut readers = diff_readers_of(&opening, request);
+    let read = read_diff_texts(alloc, manner, &mut readers);
+    drop(readers);
+    let status = match read {
+        Ok(texts) => {
+            let status = compare_on(rt, alloc, request, &texts);
+            drop(texts);
+            status
+        }
+        Err(fault) => refuse_text(rt, request.why, &fault),
+    };
+    opening.explain(request.why);
+    drop(opening);
+    status
+}
+
+/// Compares the programs of these texts over the standard streams, and warns of what is always true.
+fn compare_on(rt: &HostRuntime, alloc: Global, request: &DiffRequest, texts: &DiffTexts) -> u8
+    ensures { result ≤ 1 }
+{
+    let (quiet, assumed) = (request.quiet, request.assumed.as_slice());
+    let standard = Standard::new(rt);
+    let mut out = standard.out();
+    let mut err = standard.err();
+    let status = compare(alloc, request, texts, &mut out, &mut err);
+    let status = warn_of_both(alloc, status, quiet, assumed, texts, &mut err);
+    drop(err);
+    drop(out);
+    drop(standard);
     status
 }
 

@@ -40,6 +40,9 @@ counts_line (counts.AssumedDifferences rows differences assumed) =
     codes "rows " ++ (decimal rows ++ (codes " differences " ++ (decimal differences ++ assumed_end assumed)))
 counts_line (counts.Verdicts same differs unsettled is_equivalent) =
     codes "same " ++ (decimal same ++ (codes " differs " ++ (decimal differs ++ (codes " unsettled " ++ (decimal unsettled ++ (codes "\n" ++ equivalence_line is_equivalent))))))
+counts_line (counts.AssumedVerdicts same differs unsettled is_equivalent assumed) =
+    codes "same " ++ (decimal same ++ (codes " differs " ++ (decimal differs ++ (codes " unsettled " ++ (decimal unsettled
+    ++ (codes " assumed " ++ (decimal assumed ++ (codes "\n" ++ equivalence_line is_equivalent))))))))
 counts_line (counts.PossibleGroups rows causes unsettled) =
     codes "rows " ++ (decimal rows ++ (codes " causes " ++ (decimal causes ++ (codes " unsettled " ++ (decimal unsettled ++ codes "\n")))))
 counts_line (counts.AssumedPossible rows unsettled assumed) = codes "rows " ++ (decimal rows ++ (codes " unsettled " ++ (decimal unsettled ++ assumed_end assumed)))

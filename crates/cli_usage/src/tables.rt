@@ -37,13 +37,7 @@ const CAUSES: &[Rule] = &[
     ),
     Rule::Excludes(
         &[Term::Flag("runs")],
-        &[
-            Term::Flag("off"),
-            Term::Flag("must"),
-            Term::Flag("grouped"),
-            Term::Valued("assume"),
-            Term::Flag("assumed"),
-        ],
+        &[Term::Flag("off"), Term::Flag("must"), Term::Flag("grouped")],
     ),
     // The inputs are found, and matter in one scan; their list has no part.
     Rule::Excludes(
@@ -82,7 +76,14 @@ const SHOW: &[Rule] = &[
             Term::Valued("number"),
             Term::Flag("all-inputs"),
             Term::Place("inputs", "INPUT"),
+            Term::Valued("assume"),
+            Term::Flag("assumed"),
         ],
+    ),
+    // A page doesn't name what is assumed.
+    Rule::Excludes(
+        &[Term::Flag("html")],
+        &[Term::Valued("assume"), Term::Flag("assumed")],
     ),
     Rule::Excludes(
         &[Term::Flag("all-inputs")],
@@ -141,8 +142,6 @@ const DIFF: &[Rule] = &[
         &[Term::Place("coil", "COIL")],
     ),
     Rule::Wants(&[Term::Flag("all-inputs")], &[Term::Place("coil", "COIL")]),
-    Rule::Wants(&[Term::Valued("assume")], &[Term::Place("coil", "COIL")]),
-    Rule::Wants(&[Term::Flag("assumed")], &[Term::Place("coil", "COIL")]),
     Rule::Wants(&[Term::Valued("states")], &[Term::Flag("runs")]),
     // Runs begin in the fresh states, so no state is looked at alone.
     Rule::Excludes(

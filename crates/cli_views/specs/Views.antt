@@ -1,7 +1,10 @@
 -- How a request ends for a text about the program, the drawing of a scan, or what is written of a simulation: all is written, or a fault stops it.
-use Rattle.std.specs.Prelude.{◌≡◌, ◌⊎◌, ◌++◌, if◌then◌else◌, ℕ, List, Bool, true, false, Option, None, Some, Result, Ok, Err, codes, decimal, [], is_some, length, map, option_map, string_bytes, unwrap_or}
+use Rattle.std.specs.Prelude.{◌≡◌, ◌⊎◌, ◌++◌, if◌then◌else◌, ℕ, List, Bool, true, false, Option, None, Some, Result, Ok, Err, codes, decimal, [], flat_map, is_some, length, map, option_map, string_bytes, unwrap_or}
 use Rattle.std.specs.Option.{option_or}
 use Rattle.std.specs.Path.{path_file_name}
+use Rattle.st_expression.specs.declared.expression.Expression.{Expression}
+use Rattle.assume_reading.specs.Several.{AreAssumptions}
+use Rattle.assume_truth.specs.Truth.{is_allowed}
 use Rattle.diagram_declarations.specs.Decls.{Declared}
 use Rattle.diagram_program.specs.Program.{Drawing, has_coil}
 use Rattle.diagram_reader.specs.Titled.{HasProgram}
@@ -38,6 +41,7 @@ use Rattle.cli_views.specs.Watched.{AreColumns, IsUnknownName}
 use Rattle.cli_inputs.specs.Setting.{Given, HasSettingFault, IsSet, stimulus_records}
 use Rattle.cli_inputs.specs.Variables.{AreListed, variable_of}
 use Rattle.cli_inputs.specs.Reports.{HasCauseFault, HasWordFault, IsReported, Logs, names_in}
+use Rattle.cli_assumed.specs.Assumed.{HasAssumptionFault}
 
 -- ---- a text about the program alone
 
@@ -98,7 +102,24 @@ broken_first r p s coil listed =
 abbrev pub shown_scan : Given → ShowRequest → Drawing → Standing → Option ℕ → List ℕ → OneScan
 shown_scan g r p s coil listed = one_scan g.program p s (assignment (diagram_of p).inputs listed (number_of r) s.held.values) (moment_of r s) coil
 
--- The drawing is written with the power flow of that scan, whole or as far as `Written` says.
+-- the inputs of that scan
+abbrev pub shown_inputs : ShowRequest → Drawing → Standing → List ℕ → List Bool
+shown_inputs r p s listed = assignment (diagram_of p).inputs listed (number_of r) s.held.values
+
+-- What is assumed of the inputs is read by the names of the program, and is true of these.
+pub record AreAsAssumed (r : ShowRequest) (p : Drawing) (inputs : List Bool) : Type 0 where
+  pub assumed : Option Expression
+  pub read : AreAssumptions p.decls (map string_bytes r.assumed.items) assumed
+  pub allowed : is_allowed assumed inputs ≡ true
+
+-- `(* assumed: E *)` for each expression, below the drawing
+abbrev pub assumed_note : List ℕ → List ℕ
+assumed_note text = codes "(* assumed: " ++ (text ++ codes " *)\n")
+
+abbrev pub assumed_notes : ShowRequest → List ℕ
+assumed_notes r = flat_map assumed_note (map string_bytes r.assumed.items)
+
+-- The drawing is written with the power flow of that scan, and what is assumed below it, whole or as far as `Written` says.
 pub record Shows (g : Given) (r : ShowRequest) (Written : List ℕ → Type 0) : Type 0 where
   pub program : Drawing
   pub state : Standing
@@ -106,16 +127,27 @@ pub record Shows (g : Given) (r : ShowRequest) (Written : List ℕ → Type 0) :
   pub listed : List ℕ
   pub viewed : IsViewed g r program state coil listed
   pub accepted : broken_first r program state coil listed ≡ None
+  pub as_assumed : AreAsAssumed r program (shown_inputs r program state listed)
   pub shown : List ℕ
   pub is : IsDrawn (style_for r.medium) (shown_scan g r program state coil listed) shown
-  pub written : Written shown
+  pub written : Written (shown ++ assumed_notes r)
 
--- Faults are looked for in this order: in the program text, in the state text, in the names, in what is asked.
+-- An expression is refused, or what is assumed is false of the inputs.
+abbrev pub HasAssumedFault : ShowRequest → Drawing → List Bool → ToolFault → Type 0
+HasAssumedFault r p inputs f = HasAssumptionFault p.decls (map string_bytes r.assumed.items) f
+    ⊎ ((assumed : Option Expression) × AreAssumptions p.decls (map string_bytes r.assumed.items) assumed × (f ≡ fault.NeverTrue) × (is_allowed assumed inputs ≡ false))
+
+-- What is asked is refused, or then what is assumed.
+abbrev pub IsScanRefused : ShowRequest → Drawing → Standing → Option ℕ → List ℕ → ToolFault → Type 0
+IsScanRefused r p s coil listed f = HasCauseFault (broken_first r p s coil listed) f
+    ⊎ ((broken_first r p s coil listed ≡ None) × HasAssumedFault r p (shown_inputs r p s listed) f)
+
+-- Faults are looked for in this order: in the program text, in the state text, in the names, in what is asked, in what is assumed.
 abbrev pub HasShowFault : Given → ShowRequest → ToolFault → Type 0
 HasShowFault g r f =
     HasSettingFault g f
     ⊎ (((p : Drawing) × (s : Standing) × IsSet g p s × HasWordFault p.decls (names_in (option_map string_bytes r.coil) (map string_bytes r.inputs.items)) f)
-    ⊎ ((p : Drawing) × (s : Standing) × (coil : Option ℕ) × (listed : List ℕ) × IsViewed g r p s coil listed × HasCauseFault (broken_first r p s coil listed) f))
+    ⊎ ((p : Drawing) × (s : Standing) × (coil : Option ℕ) × (listed : List ℕ) × IsViewed g r p s coil listed × IsScanRefused r p s coil listed f))
 
 -- ---- a simulation
 

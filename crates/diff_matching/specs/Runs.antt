@@ -2,6 +2,7 @@
 use Rattle.std.specs.Prelude.{◌≡◌, ℕ, ◌≤◌, ◌<◌, ◌^◌, Bool, false, List, [], ◌∷◌, Some, slice_get, slice_index_or}
 use Rattle.diagram_program.specs.Program.{Drawing}
 use Rattle.scan_cycle.specs.Programs.{diagram_of}
+use Rattle.scan_cycle.specs.Runs.{OneScan}
 use Rattle.scan_cycle.specs.Scan.{after_scan, given}
 use Rattle.scan_cycle.specs.Standing.{Fits, IsStanding, Standing, with_values}
 use Rattle.diff_matching.specs.declared.matching.Pair.{Pair}
@@ -12,6 +13,13 @@ pub record TwoScans : Type 0 where
   pub moment : ℕ
   pub old : List Bool
   pub new : List Bool
+
+-- the scan of OLD, and the scan of NEW
+abbrev pub old_scan : TwoScans → OneScan
+old_scan two = record { moment = two.moment; inputs = two.old }
+
+abbrev pub new_scan : TwoScans → OneScan
+new_scan two = record { moment = two.moment; inputs = two.new }
 
 -- the state with these values of the inputs, before the scan
 abbrev pub with_inputs : Drawing → List Bool → Standing → Standing

@@ -13,8 +13,8 @@ use Rattle.scan_cycle.specs.Runs.{after_each}
 use Rattle.scan_cycle.specs.Standing.{Standing, fresh}
 use Rattle.diff_matching.specs.declared.matching.Pair.{Pair}
 use Rattle.diff_matching.specs.Matching.{Agree, AgreeOnInputs, Matching}
-use Rattle.diff_matching.specs.Runs.{AgreeAfterEach, AreRuns, TwoScans, next, with_inputs}
-use Rattle.diff_runs.specs.Showing.{BelongTogether, NeverShown, is_on, left_by, new_scan, old_scan}
+use Rattle.diff_matching.specs.Runs.{AgreeAfterEach, AreRuns, TwoScans, new_scan, next, old_scan, with_inputs}
+use Rattle.diff_runs.specs.Showing.{BelongTogether, NeverShown, is_on, left_by}
 use Rattle.diff_runs.specs.declared.symbols.TwoSymbols.{TwoSymbols}
 use Rattle.diff_run_verdicts.specs.Lasting.{IsOneOf, StayAlike}
 

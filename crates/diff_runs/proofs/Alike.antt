@@ -9,9 +9,9 @@ use Rattle.scan_cycle.specs.Rung.{Held}
 use Rattle.scan_cycle.specs.Runs.{after_each}
 use Rattle.scan_cycle.specs.Standing.{Standing, fresh}
 use Rattle.diff_matching.specs.Matching.{Agree, Matching}
-use Rattle.diff_matching.specs.Runs.{AgreeAfterEach, AreRuns, TwoScans, next}
+use Rattle.diff_matching.specs.Runs.{AgreeAfterEach, AreRuns, TwoScans, new_scan, next, old_scan}
 use Rattle.diff_runs.specs.Beside.{AgreeFromFresh}
-use Rattle.diff_runs.specs.Showing.{BelongTogether, is_on, left_by, new_scan, old_scan}
+use Rattle.diff_runs.specs.Showing.{BelongTogether, is_on, left_by}
 use Rattle.diff_runs.proofs.Pairs.{found_at}
 
 -- What agrees after each scan does so after the last one.

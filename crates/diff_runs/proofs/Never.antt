@@ -11,12 +11,12 @@ use Rattle.scan_cycle.specs.Standing.{Standing, fresh}
 use Rattle.reach_runs.proofs.GivenLaws.{others_keep}
 use Rattle.reach_runs.specs.Asking.{Gives, IsAsked, is_on_after}
 use Rattle.diff_matching.specs.Matching.{Matching}
-use Rattle.diff_matching.specs.Runs.{AreRuns, TwoScans, next, with_inputs}
+use Rattle.diff_matching.specs.Runs.{AreRuns, TwoScans, new_scan, next, old_scan, with_inputs}
 use Rattle.diff_runs.specs.Asking.{AreIn, question}
 use Rattle.diff_runs.specs.Beside.{AreBeside}
 use Rattle.diff_runs.specs.Laws.{NeverShownWhereNeverOn, NotShownWhereStaysOff}
 use Rattle.diff_runs.specs.Pulling.{inputs_of}
-use Rattle.diff_runs.specs.Showing.{AreAlikeAfter, is_on, left_by, new_scan, old_scan}
+use Rattle.diff_runs.specs.Showing.{AreAlikeAfter, is_on, left_by}
 use Rattle.diff_runs.specs.declared.symbols.TwoSymbols.{TwoSymbols}
 use Rattle.diff_runs.proofs.Alike.{alike_after}
 use Rattle.diff_runs.proofs.Inputs.{fresh_sizes, no_input}

@@ -9,7 +9,8 @@ use Rattle.scan_cycle.specs.Runs.{OneScan}
 use Rattle.scan_cycle.specs.Standing.{fresh}
 use Rattle.diff_runs.specs.Laws.{ShownWhereSwitchedOn}
 use Rattle.diff_runs.specs.Pulling.{inputs_of, pulled}
-use Rattle.diff_runs.specs.Showing.{is_on, left_by, new_scan, old_scan}
+use Rattle.diff_runs.specs.Showing.{is_on, left_by}
+use Rattle.diff_matching.specs.Runs.{new_scan, old_scan}
 use Rattle.diff_runs.proofs.Alike.{alike_after}
 use Rattle.diff_runs.proofs.Inputs.{fresh_sizes}
 use Rattle.diff_runs.proofs.Parting.{both_runs, part_runs, part_scan}

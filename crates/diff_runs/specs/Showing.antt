@@ -10,7 +10,7 @@ use Rattle.scan_cycle.specs.Standing.{fresh}
 use Rattle.invariant_cases.specs.Allowing.{is_on_in}
 use Rattle.invariant_cases.specs.Cases.{point_of}
 use Rattle.diff_matching.specs.Matching.{Matching}
-use Rattle.diff_matching.specs.Runs.{AreRuns, TwoScans}
+use Rattle.diff_matching.specs.Runs.{AreRuns, TwoScans, new_scan, old_scan}
 use Rattle.diff_runs.specs.declared.symbols.TwoSymbols.{TwoSymbols}
 
 -- The one and the other belong together.
@@ -22,13 +22,6 @@ BelongTogether m a b = ⊥
 -- Whether a symbol is ON in a state.
 abbrev pub is_on : Symbol → Held → Bool
 is_on symbol h = is_on_in (point_of symbol) h
-
--- the scan of OLD, and the scan of NEW
-abbrev pub old_scan : TwoScans → OneScan
-old_scan two = record { moment = two.moment; inputs = two.old }
-
-abbrev pub new_scan : TwoScans → OneScan
-new_scan two = record { moment = two.moment; inputs = two.new }
 
 -- what scans of a program leave, from its fresh state on
 abbrev pub left_by : Drawing → List OneScan → Held

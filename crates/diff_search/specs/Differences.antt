@@ -6,9 +6,9 @@ use Rattle.reach_runs.specs.Asking.{NeverOn, RunQuestion, StaysOff}
 use Rattle.reach_search.specs.declared.seeking.Verdict.{Verdict}
 use Rattle.reach_search.specs.declared.seeking.Verdict.TheVariants.{Run}
 use Rattle.diff_matching.specs.Matching.{Matching}
-use Rattle.diff_matching.specs.Runs.{TwoScans}
+use Rattle.diff_matching.specs.Runs.{TwoScans, new_scan, old_scan}
 use Rattle.diff_runs.specs.Pulling.{ArePlaces, inputs_of}
-use Rattle.diff_runs.specs.Showing.{NeverShown, NotShownWithin, ShowsInRun, new_scan, old_scan}
+use Rattle.diff_runs.specs.Showing.{NeverShown, NotShownWithin, ShowsInRun}
 use Rattle.diff_runs.specs.declared.sides.Sides.{Sides}
 use Rattle.diff_runs.specs.declared.symbols.TwoSymbols.{TwoSymbols}
 use Rattle.diff_search.specs.declared.difference.RunDifference.{RunDifference}

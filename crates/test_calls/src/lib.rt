@@ -1,4 +1,4 @@
-//! Tests of the public calls below the command line, over readers and writers in memory.
+//! Tests of the public calls below the command line, over readers and writers in memory, and the names that callers are promised.
 #![tactic(auto)]
 
 mod causes;
@@ -6,5 +6,6 @@ pub mod memory;
 mod order;
 mod runs;
 mod scans;
+pub mod surface;
 mod table;
 mod texts;

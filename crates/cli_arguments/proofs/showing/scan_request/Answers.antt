@@ -6,7 +6,7 @@ use Rattle.cli_arguments.proofs.showing.scan_request.Goals as goal
 pub returns-in_err-number-clause-err : goal.returns-in_err-number-clause-err
 returns-in_err-number-clause-err c =
     let none = no_scan_of_number (rows_of (found_of c.args.found.now)) c.requires in
-    let fault = err_from_is_err_and c.from_residual.result c.from_residual.ensures.1 in
+    let fault = err_from_is_err_and c.from_residual-in_err-number.result c.from_residual-in_err-number.ensures.1 in
     rw (fault.1, fault.2) (usage_weaker _ none c.in_err-number.ensures.err)
 
 pub returns-in_err-state-clause-err : goal.returns-in_err-state-clause-err

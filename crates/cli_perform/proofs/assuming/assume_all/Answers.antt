@@ -33,3 +33,7 @@ returns-in-Never c =
 pub returns-in-Reach : goal.returns-in-Reach
 returns-in-Reach c =
     rw c.in-Reach.is (IfOk-weaker c.put_first-in-Reach.result _ _ (λ done h. (c.put_first-in-Reach.new.others, h, refl)) c.put_first-in-Reach.ensures)
+
+pub returns-in-Show : goal.returns-in-Show
+returns-in-Show c =
+    rw c.in-Show.is (IfOk-weaker c.put_first-in-Show.result _ _ (λ done h. (c.put_first-in-Show.new.others, h, refl)) c.put_first-in-Show.ensures)

@@ -1,7 +1,7 @@
 use Rattle.std.proofs.Common.{◌∙◌, ap, map, sym}
 use Rattle.std.proofs.lemmas.Simd.{map-map}
 use Rattle.diff_runs.specs.Pulling.{pulled, pulled_scan}
-use Rattle.diff_runs.specs.Showing.{new_scan, old_scan}
+use Rattle.diff_matching.specs.Runs.{new_scan, old_scan}
 use Rattle.diff_search.proofs.seeking.two_runs.Goals as goal
 
 pub returns : goal.returns
