@@ -1,10 +1,11 @@
 -- How a list of what some state, or every one, switches on ends.
 use Rattle.std.proofs.Common.{◌≡◌, ◌≢◌, ◌∙◌, ◌⊎◌, ◌^◌, ℕ, zero, suc, Bool, true, false, List, None, Option, Some, Result, Ok, Err, ap, inl, inr, length, refl, subst, sym}
-use Rattle.std.specs.Prelude.{IfSome}
+use Rattle.std.specs.Prelude.{IfOk, IfSome}
 use Rattle.diagram_program.specs.Program.{Drawing}
 use Rattle.causes_query.specs.Causes.{Question}
 use Rattle.causes_query.specs.Refusal.{refusal}
 use Rattle.causes_any_state.specs.Possible.{AreRowsBy, AreStatesOf, MayBeOf, PossibleCursor}
+use Rattle.invariant_runs.specs.Staying.{IsStayingOf}
 use Rattle.invariant_sets.specs.declared.staying.Staying.{Staying}
 use Rattle.scan_cycle.specs.Standing.{Standing}
 use Rattle.causes_any_state.specs.declared.possible.PossibleCause.{PossibleCause}
@@ -26,17 +27,27 @@ use Rattle.cli_questions.specs.declared.counting.ListCounts.TheVariants as count
 use Rattle.cli_states.specs.Query.{AsksFor, at_stored}
 use Rattle.cli_questions.specs.Ending.{IsNamed, Listing}
 use Rattle.cli_questions.specs.Query.{Writes}
-use Rattle.cli_states.specs.AnyState.{AnyStateBy, AnyStateRefusal, IsStayingBy, PossibleListBy, PossibleRowsBy, ReachedListBy, counted, possible_counts, possible_group_counts, possible_refusal_by, row_counts}
+use Rattle.cli_states.specs.AnyState.{AnyStateBy, AnyStateRefusal, IsSettledBy, IsStayingBy, PossibleListBy, PossibleRowsBy, ReachedListBy, counted, possible_counts, possible_group_counts, possible_refusal_by, row_counts}
+
+-- What is so of a value in a result, by each of three.
+pub ok_each : {A F : Type 0} (w : Result A F) (P Q R : A → Type 0) → IfOk w P → IfOk w Q → IfOk w R → IfOk w (λ x. P x × Q x × R x)
+ok_each (Ok x) P Q R p q r = (p, q, r)
+ok_each (Err e) P Q R p q r = tt
 
 -- What stays so is said of the program's own names.
 of_program : (p : Drawing) (off : Bool) (staying : Option Staying) → MayBeOf p staying → AreStatesOf p (counted off staying)
 of_program p true staying of = of
 of_program p false staying of = of
 
-pub states_of : (b off : Bool) (p : Drawing) (s : Standing) (staying : Option Staying) → IsStayingBy b p s staying → AreStatesOf p (counted off staying)
-states_of false off p s staying none = of_program p off staying (subst (λ (x : Option Staying). MayBeOf p x) (sym none) tt)
-states_of true off p s staying (known, same, is, reached, told) =
-    of_program p off staying (subst (λ (x : Option Staying). MayBeOf p x) (sym same) (record { set = is.steady.set; apart = is.apart.outside }))
+known_of : (assumed : Option Expression) (p : Drawing) (s : Standing) (known : Staying) → IsSettledBy assumed p s known → IsStayingOf p known
+known_of None p s known settled = record { set = settled.0.steady.set; apart = settled.0.apart.outside }
+known_of (Some e) p s known settled = record { set = settled.0.steady.set; apart = settled.0.apart.outside }
+
+pub states_of : (b off : Bool) (assumed : Option Expression) (p : Drawing) (s : Standing) (staying : Option Staying) → IsStayingBy b assumed p s staying
+    → AreStatesOf p (counted off staying)
+states_of false off assumed p s staying none = of_program p off staying (subst (λ (x : Option Staying). MayBeOf p x) (sym none) tt)
+states_of true off assumed p s staying (known, same, settled) =
+    of_program p off staying (subst (λ (x : Option Staying). MayBeOf p x) (sym same) (known_of assumed p s known settled))
 
 pub asked_of_all : (g : Given) (coil : List ℕ) (all : Bool) (inputs : List (List ℕ)) (q : Question) → IsNamed g coil None all inputs q → IsNamed g coil None all inputs (at_stored q)
 asked_of_all g coil all inputs q h = (record { set = h.0.set; at = refl; on = h.0.on }, h.1)

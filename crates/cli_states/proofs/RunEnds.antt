@@ -3,24 +3,30 @@ use Rattle.std.proofs.Common.{◌≡◌, ◌∙◌, ◌⊎◌, ◌^◌, ℕ, Boo
 use Rattle.std.specs.Prelude.{IfSome}
 use Rattle.st_expression.specs.declared.expression.Expression.{Expression}
 use Rattle.diagram_program.specs.Program.{Drawing}
-use Rattle.scan_cycle.specs.Standing.{Standing}
+use Rattle.scan_cycle.specs.Standing.{Fits, Standing}
 use Rattle.causes_query.specs.Causes.{Question}
 use Rattle.causes_query.specs.Refusal.{refusal}
+use Rattle.invariant_sets.specs.Invariants.{AllowsGiven}
 use Rattle.invariant_sets.specs.declared.staying.Staying.{Staying}
 use Rattle.causes_in_runs.specs.Rows.{AllCount, AreRunRows, RunCursor}
 use Rattle.causes_in_runs.specs.declared.row.RunCause.{RunCause}
-use Rattle.causes_in_runs.proofs.Counted.{each_counts, reached_count}
+use Rattle.causes_in_runs.proofs.Counted.{each_counts, reached_count, reached_count_assuming}
 use Rattle.text_runs.specs.CauseText.{AreAll, AreFew, Gave, run_causes_text}
 use Rattle.cli_arguments.specs.declared.request.PossibleRequest.{PossibleRequest}
 use Rattle.cli_questions.specs.declared.counting.ListCounts.{ListCounts}
 use Rattle.cli_states.specs.Query.{AsksRuns}
-use Rattle.cli_states.specs.AnyState.{IsStayingBy, ReachedListBy, counted, reached_counts}
+use Rattle.cli_states.specs.AnyState.{IsSettledBy, IsStayingBy, ReachedListBy, counted, reached_counts}
 
 -- Each state that a run reaches counts.
-pub all_count : (assumed : Option Expression) (b : Bool) (p : Drawing) (s : Standing) (staying : Option Staying) → IsStayingBy b p s staying → AllCount assumed p s (counted false staying)
-all_count assumed false p s staying none = subst (λ (x : Option Staying). AllCount assumed p s (counted false x)) (sym none) (each_counts assumed p s)
-all_count assumed true p s staying (known, same, is, reached, told) =
-    subst (λ (x : Option Staying). AllCount assumed p s (counted false x)) (sym same) (reached_count assumed p s known reached)
+module _ (p : Drawing) (s : Standing) (law : AllowsGiven p) (fits : Fits p s) where
+  settled_count : (assumed : Option Expression) (known : Staying) → IsSettledBy assumed p s known → AllCount assumed p s (counted false (Some known))
+  settled_count None known settled = reached_count None p s known settled.1
+  settled_count (Some e) known settled = reached_count_assuming (Some e) p s law fits known settled.1
+
+  pub all_count : (b : Bool) (assumed : Option Expression) (staying : Option Staying) → IsStayingBy b assumed p s staying → AllCount assumed p s (counted false staying)
+  all_count false assumed staying none = subst (λ (x : Option Staying). AllCount assumed p s (counted false x)) (sym none) (each_counts assumed p s)
+  all_count true assumed staying (known, same, settled) =
+      subst (λ (x : Option Staying). AllCount assumed p s (counted false x)) (sym same) (settled_count assumed known settled)
 
 module _ (assumed : Option Expression) (expressions : ℕ) (r : PossibleRequest) (q : Question) (c d : RunCursor) (rows : List RunCause) (accepted : refusal q None ≡ None)
     (made : AsksRuns assumed r q c) (gave : Gave c rows d) (few : AreFew r.limit rows) where

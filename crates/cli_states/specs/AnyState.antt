@@ -12,11 +12,11 @@ use Rattle.search_groups.specs.Classes.{numbers_in}
 use Rattle.search_groups.specs.declared.class_table.TheConstants.{BITS_LIMIT}
 use Rattle.search_groups.specs.declared.class_walk.ClassGroup.{ClassGroup}
 use Rattle.text_lists.specs.ClassText.{possible_group_text, unsettled_in}
-use Rattle.invariant_sets.specs.Invariants.{IsStaying}
+use Rattle.invariant_sets.specs.Invariants.{IsStaying, IsStayingAssuming}
 use Rattle.invariant_sets.specs.Pairs.{HasToldApart}
 use Rattle.text_causes.specs.CauseText.{limited}
 use Rattle.causes_any_state.specs.Possible.{AreRowsBy}
-use Rattle.invariant_runs.specs.Reached.{AreReached}
+use Rattle.invariant_runs.specs.Reached.{AreReached, AreReachedAssuming}
 use Rattle.causes_any_state.specs.declared.states.States.{States}
 use Rattle.invariant_sets.specs.declared.staying.Staying.{Staying}
 use Rattle.causes_any_state.specs.declared.before.Before.TheVariants as before
@@ -37,6 +37,7 @@ use Rattle.cli_questions.specs.declared.counting.ListCounts.TheVariants as count
 use Rattle.cli_inputs.specs.Setting.{Given}
 use Rattle.cli_inputs.specs.Reports.{HasCauseFault, Logs}
 use Rattle.cli_assumed.specs.Assumed.{AssumingAnywhere, AssumingAnywhereFault}
+use Rattle.cli_states.specs.Never.{of_inputs}
 use Rattle.cli_questions.specs.Ending.{BreaksOff, Ends, Form, HasAskedFault, IsNamed, ListsAsked}
 
 -- The names are those of the variables. There is a state as well, and its moment, which make no difference.
@@ -48,12 +49,17 @@ abbrev pub counted : Bool → Option Staying → States
 counted true staying = record { before = before.Off; staying = staying }
 counted false staying = record { before = before.Any; staying = staying }
 
--- What stays so from the state on: nothing is asked for, or it is settled, with all that one scan settles, and it is so in each state that a run
--- reaches.
-abbrev pub IsStayingBy : Bool → Drawing → Standing → Option Staying → Type 0
-IsStayingBy false p s staying = staying ≡ None
-IsStayingBy true p s staying = (known : Staying) × (staying ≡ Some known) × IsStaying p s known × AreReached p s known
+-- What stays so from the state on is settled, with all that one scan settles, and it is so in each state that a run reaches in whose scans what is
+-- assumed is true.
+abbrev pub IsSettledBy : Option Expression → Drawing → Standing → Staying → Type 0
+IsSettledBy None p s known = IsStaying p s known × AreReached p s known × HasToldApart p s known.steady known.apart
+IsSettledBy (Some e) p s known = IsStayingAssuming p (of_inputs p (Some e)) s known × AreReachedAssuming p (of_inputs p (Some e)) s known
     × HasToldApart p s known.steady known.apart
+
+-- it, or nothing where it isn't asked for
+abbrev pub IsStayingBy : (reachable : Bool) → Option Expression → Drawing → Standing → Option Staying → Type 0
+IsStayingBy false assumed p s staying = staying ≡ None
+IsStayingBy true assumed p s staying = (known : Staying) × (staying ≡ Some known) × IsSettledBy assumed p s known
 
 -- what a row claims of its number: that every state that counts leaves the coil ON, or that some one does
 abbrev pub claimed : Bool → Claim
@@ -74,7 +80,7 @@ possible_counts expressions rows = row_counts expressions (length rows) (count_b
 pub record PossibleListBy (assumed : Option Expression) (expressions : ℕ) (r : PossibleRequest) (q : Question) (text : List ℕ) (c : Option ListCounts) : Type 0 where
   pub accepted : refusal q None ≡ None
   pub staying : Option Staying
-  pub stays : IsStayingBy r.reachable q.program q.state staying
+  pub stays : IsStayingBy r.reachable assumed q.program q.state staying
   pub rows : List PossibleCause
   pub few : AreFew r.limit rows
   pub to : ℕ
@@ -104,7 +110,7 @@ possible_group_counts (suc n) k groups = counts.AssumedPossibleGroups (length gr
 pub record PossibleGroupListBy (assumed : Option Expression) (expressions : ℕ) (r : PossibleRequest) (q : Question) (text : List ℕ) (c : Option ListCounts) : Type 0 where
   pub accepted : possible_group_refusal q ≡ None
   pub staying : Option Staying
-  pub stays : IsStayingBy r.reachable q.program q.state staying
+  pub stays : IsStayingBy r.reachable assumed q.program q.state staying
   pub groups : List ClassGroup
   pub are : ArePossibleGroupsBy assumed q.program q.coil q.listed (counted r.off staying) (claimed r.must) groups
   pub written : text ≡ possible_group_text q.program q.listed (limited r.limit groups)
@@ -125,7 +131,7 @@ reached_counts expressions rows = row_counts expressions (length rows) (count_by
 pub record ReachedListBy (assumed : Option Expression) (expressions : ℕ) (r : PossibleRequest) (q : Question) (text : List ℕ) (c : Option ListCounts) : Type 0 where
   pub accepted : refusal q None ≡ None
   pub staying : Option Staying
-  pub stays : IsStayingBy r.reachable q.program q.state staying
+  pub stays : IsStayingBy r.reachable assumed q.program q.state staying
   pub rows : List RunCause
   pub few : AreFewRuns r.limit rows
   pub to : ℕ

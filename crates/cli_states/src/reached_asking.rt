@@ -11,6 +11,7 @@ use causes_in_runs::RunCauses;
 use causes_query::CauseFault;
 use cli_arguments::PossibleRequest;
 use cli_questions::ListQuery;
+use invariant_sets::laws::allowed_where_given;
 use reach_search::Limits;
 use st_expression::Expression;
 use std::alloc::Global;
@@ -43,6 +44,7 @@ pub(crate) fn run_causes_of<'a>(
     ensures accepted { IfOk result (λ _. refusal (at_stored (question_of asked.now)) None ≡ None) }
     ensures refused { IfErr result (λ e. refusal (at_stored (question_of asked.now)) None ≡ reason e) }
 {
+    allowed_where_given(&asked.program);
     let causes = causes_of(alloc, request, false, false, asked, assumed)?;
     match RunCauses::new(alloc, &asked.state, causes, assumed, limits_of(states)) {
         Ok(causes) => Ok(causes),

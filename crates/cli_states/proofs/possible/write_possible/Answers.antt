@@ -1,5 +1,5 @@
 use Rattle.std.proofs.Common.{◌≡◌, ◌⊎◌, List, Option, ap, inl, inr, length, refl, subst, ℕ}
-use Rattle.std.specs.Prelude.{None, option_map}
+use Rattle.std.specs.Prelude.{option_map}
 use Rattle.cli_inputs.specs.Reports.{HasCauseFault}
 use Rattle.cli_inputs.specs.declared.fault.ToolFault.{ToolFault}
 use Rattle.cli_assumed.specs.Assumed.{HasTruthFault, MayBeTrue}

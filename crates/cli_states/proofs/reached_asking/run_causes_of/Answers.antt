@@ -1,4 +1,4 @@
-use Rattle.std.proofs.Common.{ap, subst, sym}
+use Rattle.std.proofs.Common.{subst, sym}
 use Rattle.std.specs.Prelude.{option_map}
 use Rattle.causes_any_state.specs.Possible.{PossibleCursor}
 use Rattle.causes_in_runs.specs.Rows.{AllCount}
@@ -11,4 +11,4 @@ new-requires-clause-counts c =
     let assumed = option_map (λ e. e.now) c.args.assumed in
     let made = c.in_ok-causes.ensures.cursor in
     subst (λ (x : PossibleCursor). AllCount x.assumed x.program asked.state x.states) (sym made.same)
-    (all_count assumed c.args.request.now.reachable asked.program asked.state made.staying made.stays)
+    (all_count asked.program asked.state c.allowed_where_given.ensures c.requires.fits c.args.request.now.reachable assumed made.staying made.stays)
