@@ -1,9 +1,10 @@
 //! The search for inputs of two programs that make true what is assumed of both.
 
-ghost use Rattle.std.specs.Prelude.{◌≡◌, ◌<◌, ◌+◌, ◌^◌, Bool, IfOk, IsFalse, IsTrue, List, false, map, true};
+ghost use Rattle.std.specs.Prelude.{◌≡◌, ◌<◌, ◌≤◌, ◌+◌, ◌^◌, Bool, IfOk, IsFalse, IsTrue, List, false, length, map, true};
 ghost use Rattle.std.specs.List.{All};
 ghost use Rattle.assume_both.specs.Both.{AreVariablesOf, CannotBeTrueInBoth, MayBeTrueInBoth, joint_number};
 ghost use Rattle.assume_truth.specs.Truth.{is_allowed};
+ghost use Rattle.diagram_declarations.specs.declared.limits.TheConstants.{MOST_VARS};
 ghost use Rattle.diff_matching.specs.Suited.{IsSuited};
 ghost use Rattle.invariant_cases.specs.Assuming.{assumed_of};
 
@@ -15,16 +16,25 @@ use invariant_cases::Assumption;
 use st_expression::Expression;
 use std::alloc::{AllocError, Global};
 
+/// Does nothing: its contract is how many variables a program has.
+fn few_variables(program: &Program)
+    ensures { length program.now.decls.vars ≤ MOST_VARS }
+{
+    let _vars = program.decls().vars();
+}
+
 /// The number that a variable of the new program has among the variables of both: that of the input of the old one with which it is in a pair, or
 /// else one behind all of those.
 fn joint_number(pairs: &[Pair], behind: usize, var: usize) -> usize
     requires { behind + var < 2 ^ 64 }
     ensures { result ≡ joint_number pairs.now behind var }
 {
-    match pairs.iter().find(|pair| pair.new == var) {
-        Some(pair) => pair.old,
-        None => behind + var,
+    for pair in pairs {
+        if pair.new == var {
+            return pair.old;
+        }
     }
+    behind + var
 }
 
 /// The numbers of the inputs of the new program.
@@ -81,8 +91,9 @@ pub fn is_possible_together(
     ensures some { IfOk result (λ found. IsTrue found → MayBeTrueInBoth matching.entry.now (assumed_of old_assumed.entry) (assumed_of new_assumed.entry)) }
     ensures none { IfOk result (λ found. IsFalse found → CannotBeTrueInBoth matching.entry.now (assumed_of old_assumed.entry) (assumed_of new_assumed.entry)) }
 {
+    few_variables(old);
+    few_variables(new);
     let behind = old.decls().vars().len();
-    let _new = new;
     let numbers = joint_numbers(alloc, matching.inputs(), behind, new_assumed.inputs)?;
     let of_old = Placed {
         expression: old_assumed.expression,

@@ -9,38 +9,39 @@ use Rattle.cli_inputs.specs.Reports.{IsReportedBy, logs}
 use Rattle.cli_inputs.specs.Setting.{Given}
 use Rattle.cli_inputs.specs.declared.fault.ToolFault.{ToolFault}
 use Rattle.cli_questions.specs.Ending.{Ends, counts_line, unless_quiet}
-use Rattle.cli_run_verdicts.specs.Ending.{CountsRuns, FailsToJudgeRuns, FailsToWriteRuns, FindsKeeping, KeepsRuns, WritesKeeping}
+use Rattle.cli_run_verdicts.specs.Assuming.{RunsAssumption}
+use Rattle.cli_run_verdicts.specs.Ending.{CountsRunsAssuming, FailsToJudgeRunsAssuming, FailsToWriteRuns, FindsKeepingAssuming, KeepsRunsAssuming, WritesKeeping}
 use Rattle.cli_run_verdicts.specs.Judged.{JudgedInRuns}
 use Rattle.cli_run_verdicts.specs.declared.writing.Kept.{Kept}
 use Rattle.cli_run_verdicts.specs.declared.writing.Written.{Written}
 
 -- What was written is kept, once its counts are told.
-kept_so : (quiet : Bool) (p q : Drawing) (written : Written) (o o' s s' : WriteLog) (kept : Kept)
-    → WritesKeeping p q written.kept.matching written.kept.found o o' written.counts → kept ≡ written.kept
-    → PutsAll s s' (unless_quiet quiet (counts_line written.counts)) → Ends (FindsKeeping p q kept.matching kept.found) quiet o o' (PutsAll s s')
-kept_so quiet p q written o o' s s' kept wrote same told =
-    subst (λ (k : Kept). Ends (FindsKeeping p q k.matching k.found) quiet o o' (PutsAll s s')) (sym same)
+kept_so : (a : RunsAssumption) (quiet : Bool) (p q : Drawing) (written : Written) (o o' s s' : WriteLog) (kept : Kept)
+    → WritesKeeping a p q written.kept.matching written.kept.found o o' written.counts → kept ≡ written.kept
+    → PutsAll s s' (unless_quiet quiet (counts_line written.counts)) → Ends (FindsKeepingAssuming a p q kept.matching kept.found) quiet o o' (PutsAll s s')
+kept_so a quiet p q written o o' s s' kept wrote same told =
+    subst (λ (k : Kept). Ends (FindsKeepingAssuming a p q k.matching k.found) quiet o o' (PutsAll s s')) (sym same)
     (record { text = wrote.0; counts = written.counts; is = wrote.1; put = wrote.2; counted = told })
 
-pub ends_kept : (quiet : Bool) (p q : Drawing) (written : Written) (o o' s s' : WriteLog) (r : Result Kept ℕ)
-    → WritesKeeping p q written.kept.matching written.kept.found o o' written.counts
+pub ends_kept : (a : RunsAssumption) (quiet : Bool) (p q : Drawing) (written : Written) (o o' s s' : WriteLog) (r : Result Kept ℕ)
+    → WritesKeeping a p q written.kept.matching written.kept.found o o' written.counts
     → IfOk r (λ kept. (kept ≡ written.kept) × PutsAll s s' (unless_quiet quiet (counts_line written.counts)))
-    → IfOk r (λ kept. Ends (FindsKeeping p q kept.matching kept.found) quiet o o' (PutsAll s s'))
-ends_kept quiet p q written o o' s s' (Ok kept) wrote told = kept_so quiet p q written o o' s s' kept wrote told.0 told.1
-ends_kept quiet p q written o o' s s' (Err status) wrote told = told
+    → IfOk r (λ kept. Ends (FindsKeepingAssuming a p q kept.matching kept.found) quiet o o' (PutsAll s s'))
+ends_kept a quiet p q written o o' s s' (Ok kept) wrote told = kept_so a quiet p q written o o' s s' kept wrote told.0 told.1
+ends_kept a quiet p q written o o' s s' (Err status) wrote told = told
 
-module _ (g h : Given) (r : DiffRunsRequest) (p q : Drawing) (old : HasProgram g.aliases g.program p) (new : HasProgram h.aliases h.program q) where
+module _ (a : RunsAssumption) (g h : Given) (r : DiffRunsRequest) (p q : Drawing) (old : HasProgram g.aliases g.program p) (new : HasProgram h.aliases h.program q) where
   -- Nothing was written, or a prefix.
-  pub broken : (f : ToolFault) (save o o' s s' : WriteLog) → FailsToWriteRuns p q o o' f → IsReportedBy None g s s' f
-      → FailsToJudgeRuns g h r (logs o save s) (logs o' save s')
+  pub broken : (f : ToolFault) (save o o' s s' : WriteLog) → FailsToWriteRuns a p q o o' f → IsReportedBy None g s s' f
+      → FailsToJudgeRunsAssuming a g h r (logs o save s) (logs o' save s')
   broken f save o o' s s' (inl fails) said =
       inl (record { side = None; reason = f; has = fails.0; unwritten = fails.1; unsaved = refl {a = save}; reported = said })
   broken f save o o' s s' (inr fails) said =
       inr (inl (fails.1.0, (p, q, old, new, fails.1.1), fails.1.2, subst (λ (x : ToolFault). IsReportedBy None g s s' x) fails.0 said))
 
   -- All was written, and the line of counts broke off.
-  uncounted : (written : Written) (save o o' s s' : WriteLog) → WritesKeeping p q written.kept.matching written.kept.found o o' written.counts
-      → PutsPrefix s s' (unless_quiet r.quiet (counts_line written.counts)) → FailsToJudgeRuns g h r (logs o save s) (logs o' save s')
+  uncounted : (written : Written) (save o o' s s' : WriteLog) → WritesKeeping a p q written.kept.matching written.kept.found o o' written.counts
+      → PutsPrefix s s' (unless_quiet r.quiet (counts_line written.counts)) → FailsToJudgeRunsAssuming a g h r (logs o save s) (logs o' save s')
   uncounted written save o o' s s' wrote cut =
       inr (inr (record {
         text = wrote.0;
@@ -51,18 +52,18 @@ module _ (g h : Given) (r : DiffRunsRequest) (p q : Drawing) (old : HasProgram g
       }))
 
   pub uncounted_in : (written : Written) (save o o' s s' : WriteLog) (result : Result Kept ℕ)
-      → WritesKeeping p q written.kept.matching written.kept.found o o' written.counts
+      → WritesKeeping a p q written.kept.matching written.kept.found o o' written.counts
       → IfErr result (λ status. PutsPrefix s s' (unless_quiet r.quiet (counts_line written.counts)))
-      → IfErr result (λ status. FailsToJudgeRuns g h r (logs o save s) (logs o' save s'))
+      → IfErr result (λ status. FailsToJudgeRunsAssuming a g h r (logs o save s) (logs o' save s'))
   uncounted_in written save o o' s s' (Ok kept) wrote told = told
   uncounted_in written save o o' s s' (Err status) wrote told = uncounted written save o o' s s' wrote told
 
 -- What is kept of two programs, whose texts were read.
-module _ (g h : Given) (r : DiffRunsRequest) (j : JudgedInRuns) (o o' : WriteLog) (Put : List ℕ → Type 0)
+module _ (a : RunsAssumption) (g h : Given) (r : DiffRunsRequest) (j : JudgedInRuns) (o o' : WriteLog) (Put : List ℕ → Type 0)
     (old : HasProgram g.aliases g.program j.old) (new : HasProgram h.aliases h.program j.new)
-    (ends : Ends (FindsKeeping j.old j.new j.matching j.found) r.quiet o o' Put) where
-  pub counts_runs : CountsRuns g h r o o' Put
+    (ends : Ends (FindsKeepingAssuming a j.old j.new j.matching j.found) r.quiet o o' Put) where
+  pub counts_runs : CountsRunsAssuming a g h r o o' Put
   counts_runs = record { text = ends.text; counts = ends.counts; is = (j.old, j.new, old, new, ends.is.0); put = ends.put; counted = ends.counted }
 
-  pub keeps_runs : KeepsRuns g h r j o o' Put
+  pub keeps_runs : KeepsRunsAssuming a g h r j o o' Put
   keeps_runs = record { text = ends.text; counts = ends.counts; is = (old, new, ends.is); put = ends.put; counted = ends.counted }

@@ -1,12 +1,12 @@
 -- How the judging of two programs over runs ends: what was found is written, or a fault stops it.
-use Rattle.std.specs.Prelude.{◌≡◌, ◌⊎◌, ℕ, false, List, Option, None, Some, IfSome, Result, Ok, Err}
+use Rattle.std.specs.Prelude.{◌≡◌, ◌⊎◌, ℕ, List, Option, None, Some, IfSome, Result, Ok, Err}
 use Rattle.diagram_program.specs.Program.{Drawing}
 use Rattle.diagram_reader.specs.Titled.{HasProgram}
 use Rattle.diff_matching.specs.Matching.{Matching}
 use Rattle.diff_matching.specs.Names.{IsByNames}
 use Rattle.diff_meaning.specs.declared.verdict.Verdicts.{Verdicts}
 use Rattle.diff_findings.specs.Findings.{findings}
-use Rattle.diff_run_verdicts.specs.RunVerdicts.{AreFound, AreTrueOfRuns}
+use Rattle.diff_run_verdicts.specs.RunVerdicts.{AreFoundAssuming, AreTrueOfRunsAssuming}
 use Rattle.diff_run_verdicts.specs.Telling.{AreToldOf}
 use Rattle.diff_run_verdicts.specs.declared.findings.RunFindings.{RunFindings}
 use Rattle.text_findings.specs.FindingText.{findings_text}
@@ -19,60 +19,86 @@ use Rattle.cli_inputs.specs.Setting.{Given}
 use Rattle.cli_questions.specs.Ending.{BreaksOff, Ends, Listing}
 use Rattle.cli_questions.specs.declared.counting.ListCounts.{ListCounts}
 use Rattle.cli_diff.specs.Ending.{RefusesOf}
-use Rattle.cli_verdicts.specs.Ending.{HasTextFault, verdict_counts}
+use Rattle.cli_verdicts.specs.Ending.{HasTextFault}
+use Rattle.cli_run_verdicts.specs.Assuming.{RunsAssumption, nothing, run_counts}
 use Rattle.cli_run_verdicts.specs.Judged.{JudgedInRuns}
 
 -- The text of what is found of two programs in runs, and what is counted of it: by what belongs together by names, and verdicts each of which is
--- true of all runs from the fresh states. Nothing is said of equivalence.
-pub record FindsInRuns (p q : Drawing) (text : List ℕ) (c : Option ListCounts) : Type 0 where
+-- true of all runs from the fresh states in each scan of which what is assumed is true. Nothing is said of equivalence.
+pub record FindsInRunsAssuming (a : RunsAssumption) (p q : Drawing) (text : List ℕ) (c : Option ListCounts) : Type 0 where
   pub matching : Matching
   pub verdicts : Verdicts
   pub names : IsByNames matching p q
-  pub judged : AreTrueOfRuns matching p q verdicts
+  pub judged : AreTrueOfRunsAssuming a.both matching p q verdicts
   pub written : text ≡ findings_text p q (findings p q matching verdicts)
-  pub counted : IfSome c (λ n. n ≡ verdict_counts (findings p q matching verdicts) false)
+  pub counted : IfSome c (λ n. n ≡ run_counts a.expressions (findings p q matching verdicts))
 
 -- The same, where this belongs together, and this is what searches found, by which the verdicts are told.
-abbrev pub FindsKeeping : Drawing → Drawing → Matching → RunFindings → Listing
-FindsKeeping p q m found text c = (f : FindsInRuns p q text c) × (f.matching ≡ m) × AreFound m p q found × AreToldOf found f.verdicts
+abbrev pub FindsKeepingAssuming : RunsAssumption → Drawing → Drawing → Matching → RunFindings → Listing
+FindsKeepingAssuming a p q m found text c = (f : FindsInRunsAssuming a p q text c) × (f.matching ≡ m) × AreFoundAssuming a.both m p q found × AreToldOf found f.verdicts
 
 -- The texts describe the two programs.
-abbrev pub JudgesRuns : Given → Given → Listing
-JudgesRuns g h text c = (p q : Drawing) × HasProgram g.aliases g.program p × HasProgram h.aliases h.program q × FindsInRuns p q text c
+abbrev pub JudgesRunsAssuming : RunsAssumption → Given → Given → Listing
+JudgesRunsAssuming a g h text c = (p q : Drawing) × HasProgram g.aliases g.program p × HasProgram h.aliases h.program q × FindsInRunsAssuming a p q text c
 
 -- Status 0: what was found was written, and then the line of counts.
-abbrev pub CountsRuns : Given → Given → DiffRunsRequest → WriteLog → WriteLog → (List ℕ → Type 0) → Type 0
-CountsRuns g h r = Ends (JudgesRuns g h) r.quiet
+abbrev pub CountsRunsAssuming : RunsAssumption → Given → Given → DiffRunsRequest → WriteLog → WriteLog → (List ℕ → Type 0) → Type 0
+CountsRunsAssuming a g h r = Ends (JudgesRunsAssuming a g h) r.quiet
 
 -- Status 1, by a writer that failed.
-abbrev pub BreaksRuns : Given → Given → DiffRunsRequest → Logs → Logs → Type 0
-BreaksRuns g h r = BreaksOff g (JudgesRuns g h) r.quiet
+abbrev pub BreaksRunsAssuming : RunsAssumption → Given → Given → DiffRunsRequest → Logs → Logs → Type 0
+BreaksRunsAssuming a g h r = BreaksOff g (JudgesRunsAssuming a g h) r.quiet
 
 -- Status 1: a fault of the texts, or a writer that failed.
+abbrev pub FailsToJudgeRunsAssuming : RunsAssumption → Given → Given → DiffRunsRequest → Logs → Logs → Type 0
+FailsToJudgeRunsAssuming a g h r old new = RefusesOf g h (HasTextFault g h) old new ⊎ BreaksRunsAssuming a g h r old new
+
+-- ---- where nothing is assumed
+
+abbrev pub FindsInRuns : Drawing → Drawing → Listing
+FindsInRuns = FindsInRunsAssuming nothing
+
+abbrev pub FindsKeeping : Drawing → Drawing → Matching → RunFindings → Listing
+FindsKeeping = FindsKeepingAssuming nothing
+
+abbrev pub JudgesRuns : Given → Given → Listing
+JudgesRuns = JudgesRunsAssuming nothing
+
+abbrev pub CountsRuns : Given → Given → DiffRunsRequest → WriteLog → WriteLog → (List ℕ → Type 0) → Type 0
+CountsRuns = CountsRunsAssuming nothing
+
+abbrev pub BreaksRuns : Given → Given → DiffRunsRequest → Logs → Logs → Type 0
+BreaksRuns = BreaksRunsAssuming nothing
+
 abbrev pub FailsToJudgeRuns : Given → Given → DiffRunsRequest → Logs → Logs → Type 0
-FailsToJudgeRuns g h r old new = RefusesOf g h (HasTextFault g h) old new ⊎ BreaksRuns g h r old new
+FailsToJudgeRuns = FailsToJudgeRunsAssuming nothing
 
 -- ---- what is kept
 
 -- The programs are those that the texts describe, and the text is what is found of them, by what is kept.
-abbrev pub JudgesKeeping : Given → Given → JudgedInRuns → Listing
-JudgesKeeping g h j text c = HasProgram g.aliases g.program j.old × HasProgram h.aliases h.program j.new × FindsKeeping j.old j.new j.matching j.found text c
+abbrev pub JudgesKeepingAssuming : RunsAssumption → Given → Given → JudgedInRuns → Listing
+JudgesKeepingAssuming a g h j text c = HasProgram g.aliases g.program j.old × HasProgram h.aliases h.program j.new
+    × FindsKeepingAssuming a j.old j.new j.matching j.found text c
 
 -- What was found was written, and then the line of counts, and the findings are kept.
+abbrev pub KeepsRunsAssuming : RunsAssumption → Given → Given → DiffRunsRequest → JudgedInRuns → WriteLog → WriteLog → (List ℕ → Type 0) → Type 0
+KeepsRunsAssuming a g h r j = Ends (JudgesKeepingAssuming a g h j) r.quiet
+
+-- where nothing is assumed
 abbrev pub KeepsRuns : Given → Given → DiffRunsRequest → JudgedInRuns → WriteLog → WriteLog → (List ℕ → Type 0) → Type 0
-KeepsRuns g h r j = Ends (JudgesKeeping g h j) r.quiet
+KeepsRuns = KeepsRunsAssuming nothing
 
 -- ---- private to the judging
 
 -- What is found by these verdicts is written, whole or as far as the writer took it; or memory ran out, and nothing was written.
-abbrev pub WritesTold : Drawing → Drawing → Matching → Verdicts → WriteLog → WriteLog → Result ListCounts ToolFault → Type 0
-WritesTold p q m v out out' (Ok n) = PutsAll out out' (findings_text p q (findings p q m v)) × (n ≡ verdict_counts (findings p q m v) false)
-WritesTold p q m v out out' (Err f) = ((f ≡ fault.Memory) × (out' ≡ out)) ⊎ ((f ≡ fault.Write) × PutsPrefix out out' (findings_text p q (findings p q m v)))
+abbrev pub WritesTold : (expressions : ℕ) → Drawing → Drawing → Matching → Verdicts → WriteLog → WriteLog → Result ListCounts ToolFault → Type 0
+WritesTold expressions p q m v out out' (Ok n) = PutsAll out out' (findings_text p q (findings p q m v)) × (n ≡ run_counts expressions (findings p q m v))
+WritesTold expressions p q m v out out' (Err f) = ((f ≡ fault.Memory) × (out' ≡ out)) ⊎ ((f ≡ fault.Write) × PutsPrefix out out' (findings_text p q (findings p q m v)))
 
 -- The same of what is found of two programs.
-abbrev pub FailsToWriteRuns : Drawing → Drawing → WriteLog → WriteLog → ToolFault → Type 0
-FailsToWriteRuns p q out out' f = ((f ≡ fault.Memory) × (out' ≡ out))
-    ⊎ ((f ≡ fault.Write) × ((text : List ℕ) × FindsInRuns p q text None × PutsPrefix out out' text))
+abbrev pub FailsToWriteRuns : RunsAssumption → Drawing → Drawing → WriteLog → WriteLog → ToolFault → Type 0
+FailsToWriteRuns a p q out out' f = ((f ≡ fault.Memory) × (out' ≡ out))
+    ⊎ ((f ≡ fault.Write) × ((text : List ℕ) × FindsInRunsAssuming a p q text None × PutsPrefix out out' text))
 
-abbrev pub WritesKeeping : Drawing → Drawing → Matching → RunFindings → WriteLog → WriteLog → ListCounts → Type 0
-WritesKeeping p q m found out out' n = (text : List ℕ) × FindsKeeping p q m found text (Some n) × PutsAll out out' text
+abbrev pub WritesKeeping : RunsAssumption → Drawing → Drawing → Matching → RunFindings → WriteLog → WriteLog → ListCounts → Type 0
+WritesKeeping a p q m found out out' n = (text : List ℕ) × FindsKeepingAssuming a p q m found text (Some n) × PutsAll out out' text

@@ -1,4 +1,5 @@
 pub mod Judged
 pub mod Naming
 pub mod Saving
+pub mod Assuming
 pub mod Ending

@@ -7,6 +7,7 @@ ghost use Rattle.cli_inputs.specs.Setting.{given_by};
 ghost use Rattle.cli_run_verdicts.specs.Ending.{CountsRuns, FailsToJudgeRuns, KeepsRuns};
 ghost use Rattle.cli_run_verdicts.specs.Judged.{all_found, found_at, shown_at};
 
+use crate::assuming::nothing;
 use crate::judging::judge_programs;
 use crate::writing::Kept;
 use cli_arguments::DiffRunsRequest;
@@ -131,7 +132,7 @@ pub fn judge_runs<O: Sink, E: Sink>(
         Ok(programs) => programs,
         Err(status) => return Err(status),
     };
-    match judge_programs(alloc, request, texts, &programs, out, err) {
+    match judge_programs(alloc, request, texts, &programs, nothing(), out, err) {
         Ok(kept) => Ok(RunsJudged {
             programs,
             kept,

@@ -6,8 +6,10 @@ ghost use Rattle.io_text.specs.Log.{PutsAll, PutsPrefix, WriteLog};
 ghost use Rattle.cli_inputs.specs.Reports.{logs};
 ghost use Rattle.cli_inputs.specs.Setting.{given_by};
 ghost use Rattle.cli_questions.specs.Ending.{Ends, counts_line, unless_quiet};
-ghost use Rattle.cli_run_verdicts.specs.Ending.{FailsToJudgeRuns, FindsKeeping};
+ghost use Rattle.cli_run_verdicts.specs.Assuming.{assumption};
+ghost use Rattle.cli_run_verdicts.specs.Ending.{FailsToJudgeRunsAssuming, FindsKeepingAssuming};
 
+use crate::assuming::RunsAssuming;
 use crate::writing::{Kept, Written, write_runs};
 use cli_arguments::DiffRunsRequest;
 use cli_diff::{DiffTexts, SidedFault, report};
@@ -47,7 +49,7 @@ fn put_written<E: Sink>(quiet: bool, written: Written, err: &mut E) -> Result<Ke
     }
 }
 
-/// Judges two programs over runs, and returns what belongs together in them, and what searches found.
+/// Judges two programs over runs in which what is assumed is true, and returns what belongs together in them, and what searches found.
 ///
 /// # Errors
 ///
@@ -57,19 +59,20 @@ pub(crate) fn judge_programs<O: Sink, E: Sink>(
     request: &DiffRunsRequest,
     texts: &DiffTexts,
     programs: &Programs,
+    assuming: RunsAssuming<'_>,
     out: &mut O,
     err: &mut E,
 ) -> Result<Kept, u8>
     requires old { HasProgram (given_by texts.now.old).aliases (given_by texts.now.old).program programs.now.old }
     requires new { HasProgram (given_by texts.now.new).aliases (given_by texts.now.new).program programs.now.new }
-    ensures done { IfOk result (λ kept. Ends (FindsKeeping programs.now.old programs.now.new kept.matching kept.found)
+    ensures done { IfOk result (λ kept. Ends (FindsKeepingAssuming (assumption assuming.entry) programs.now.old programs.now.new kept.matching kept.found)
         request.now.quiet (O.log out.old) (O.log out.new) (PutsAll (E.log err.old) (E.log err.new))) }
     ensures status { IfErr result (λ status. status ≡ 1) }
     ensures failed { (save : WriteLog) → IfErr result (λ status.
-        FailsToJudgeRuns (given_by texts.now.old) (given_by texts.now.new) request.now (logs (O.log out.old) save (E.log err.old)) (logs (O.log out.new) save (E.log err.new))) }
+        FailsToJudgeRunsAssuming (assumption assuming.entry) (given_by texts.now.old) (given_by texts.now.new) request.now (logs (O.log out.old) save (E.log err.old)) (logs (O.log out.new) save (E.log err.new))) }
 {
     let limits = limits_of(request);
-    match write_runs(alloc, limits, &programs.old, &programs.new, out) {
+    match write_runs(alloc, limits, &programs.old, &programs.new, assuming, out) {
         Ok(written) => put_written(request.quiet, written, err),
         Err(fault) => Err(report(texts, SidedFault { side: None, fault }, err)),
     }

@@ -1,6 +1,7 @@
 //! Judges two programs over runs, writes what is found of each name, and keeps the runs that show each difference.
 #![tactic(auto)]
 
+mod assuming;
 mod judged;
 mod judging;
 mod naming;

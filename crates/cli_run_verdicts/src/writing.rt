@@ -1,18 +1,19 @@
 //! What is found of two programs in runs, written.
 
-ghost use Rattle.std.specs.Prelude.{◌≡◌, IfErr, IfOk, false};
+ghost use Rattle.std.specs.Prelude.{◌≡◌, IfErr, IfOk};
 ghost use Rattle.diff_matching.specs.Names.{IsByNames};
 ghost use Rattle.diff_findings.specs.Findings.{findings as findings_list};
-ghost use Rattle.diff_run_verdicts.specs.RunVerdicts.{AreFound};
-ghost use Rattle.cli_verdicts.specs.Ending.{verdict_counts};
+ghost use Rattle.diff_run_verdicts.specs.RunVerdicts.{AreFoundAssuming};
+ghost use Rattle.cli_run_verdicts.specs.Assuming.{assumption, run_counts};
 ghost use Rattle.cli_run_verdicts.specs.Ending.{FailsToWriteRuns, WritesKeeping, WritesTold};
 
+use crate::assuming::RunsAssuming;
 use cli_inputs::ToolFault;
 use cli_questions::ListCounts;
 use diagram_program::Program;
 use diff_findings::{Compared, Finding, count_verdicts, findings};
 use diff_matching::Matching;
-use diff_meaning::{Counted, Verdicts};
+use diff_meaning::{Counted, CountedStates, Verdicts};
 use diff_run_verdicts::{RunFindings, find_all, verdicts_of};
 use io_text::Sink;
 use reach_search::Limits;
@@ -42,30 +43,44 @@ pub(crate) struct Written {
     pub kept: Kept,
 }
 
-/// What is counted of findings.
-fn counts_of(list: &[Finding]) -> ListCounts
-    ensures { result ≡ verdict_counts list.now false }
+/// What is counted of findings, where so many expressions are assumed.
+fn counts_of(expressions: u64, list: &[Finding]) -> ListCounts
+    ensures { result ≡ run_counts expressions list.now }
 {
     let tally = count_verdicts(list);
-    ListCounts::Verdicts {
-        same: tally.same as u64,
-        differs: tally.differs as u64,
-        unsettled: tally.unsettled as u64,
-        is_equivalent: false,
+    let same = tally.same as u64;
+    let differs = tally.differs as u64;
+    let unsettled = tally.unsettled as u64;
+    let is_equivalent = false;
+    match expressions {
+        0 => ListCounts::Verdicts {
+            same,
+            differs,
+            unsettled,
+            is_equivalent,
+        },
+        assumed => ListCounts::AssumedVerdicts {
+            same,
+            differs,
+            unsettled,
+            is_equivalent,
+            assumed,
+        },
     }
 }
 
 /// Writes findings, and counts them.
 fn write_list<O: Sink>(
+    expressions: u64,
     compared: Compared<'_>,
     list: &[Finding],
     out: &mut O,
 ) -> Result<ListCounts, ToolFault>
     requires { list.now ≡ findings_list compared.old.now compared.new.now compared.matching.now compared.verdicts.now }
-    ensures { WritesTold compared.entry.old.now compared.entry.new.now compared.entry.matching.now compared.entry.verdicts.now (O.log out.old) (O.log out.new) result }
+    ensures { WritesTold expressions compared.entry.old.now compared.entry.new.now compared.entry.matching.now compared.entry.verdicts.now (O.log out.old) (O.log out.new) result }
 {
     match write_findings(compared.old, compared.new, list, out) {
-        Ok(()) => Ok(counts_of(list)),
+        Ok(()) => Ok(counts_of(expressions, list)),
         Err(_) => Err(ToolFault::Write),
     }
 }
@@ -73,16 +88,17 @@ fn write_list<O: Sink>(
 /// Writes what is found of two programs by verdicts.
 fn write_compared<O: Sink>(
     alloc: Global,
+    expressions: u64,
     compared: Compared<'_>,
     out: &mut O,
 ) -> Result<ListCounts, ToolFault>
-    ensures { WritesTold compared.entry.old.now compared.entry.new.now compared.entry.matching.now compared.entry.verdicts.now (O.log out.old) (O.log out.new) result }
+    ensures { WritesTold expressions compared.entry.old.now compared.entry.new.now compared.entry.matching.now compared.entry.verdicts.now (O.log out.old) (O.log out.new) result }
 {
     let list = match findings(alloc, compared) {
         Ok(list) => list,
         Err(_) => return Err(ToolFault::Memory),
     };
-    let written = write_list(compared, &list, out);
+    let written = write_list(expressions, compared, &list, out);
     drop(list);
     written
 }
@@ -94,11 +110,12 @@ fn write_told<O: Sink>(
     new: &Program,
     matching: &Matching,
     verdicts: &Verdicts,
+    expressions: u64,
     out: &mut O,
 ) -> Result<ListCounts, ToolFault>
-    ensures { WritesTold old.now new.now matching.now verdicts.now (O.log out.old) (O.log out.new) result }
+    ensures { WritesTold expressions old.now new.now matching.now verdicts.now (O.log out.old) (O.log out.new) result }
 {
-    let counted = Counted::All;
+    let counted = Counted::of(CountedStates::All);
     let compared = Compared {
         old,
         new,
@@ -106,7 +123,7 @@ fn write_told<O: Sink>(
         counted: &counted,
         verdicts,
     };
-    let written = write_compared(alloc, compared, out);
+    let written = write_compared(alloc, expressions, compared, out);
     drop(counted);
     written
 }
@@ -118,18 +135,27 @@ fn write_found<O: Sink>(
     new: &Program,
     matching: &Matching,
     found: &RunFindings,
+    assuming: RunsAssuming<'_>,
     out: &mut O,
 ) -> Result<ListCounts, ToolFault>
     requires names { IsByNames matching.now old.now new.now }
-    requires found { AreFound matching.now old.now new.now found.now }
-    ensures done { IfOk result (WritesKeeping old.now new.now matching.now found.now (O.log out.old) (O.log out.new)) }
-    ensures failed { IfErr result (FailsToWriteRuns old.now new.now (O.log out.old) (O.log out.new)) }
+    requires found { AreFoundAssuming (assumption assuming).both matching.now old.now new.now found.now }
+    ensures done { IfOk result (WritesKeeping (assumption assuming.entry) old.now new.now matching.now found.now (O.log out.old) (O.log out.new)) }
+    ensures failed { IfErr result (FailsToWriteRuns (assumption assuming.entry) old.now new.now (O.log out.old) (O.log out.new)) }
 {
     let verdicts = match verdicts_of(alloc, matching, found) {
         Ok(verdicts) => verdicts,
         Err(_) => return Err(ToolFault::Memory),
     };
-    let written = write_told(alloc, old, new, matching, &verdicts, out);
+    let written = write_told(
+        alloc,
+        old,
+        new,
+        matching,
+        &verdicts,
+        assuming.expressions,
+        out,
+    );
     drop(verdicts);
     written
 }
@@ -141,17 +167,18 @@ fn write_matched<O: Sink>(
     old: &Program,
     new: &Program,
     matching: &Matching,
+    assuming: RunsAssuming<'_>,
     out: &mut O,
 ) -> Result<Told, ToolFault>
     requires names { IsByNames matching.now old.now new.now }
-    ensures done { IfOk result (λ t. WritesKeeping old.now new.now matching.now t.found (O.log out.old) (O.log out.new) t.counts) }
-    ensures failed { IfErr result (FailsToWriteRuns old.now new.now (O.log out.old) (O.log out.new)) }
+    ensures done { IfOk result (λ t. WritesKeeping (assumption assuming.entry) old.now new.now matching.now t.found (O.log out.old) (O.log out.new) t.counts) }
+    ensures failed { IfErr result (FailsToWriteRuns (assumption assuming.entry) old.now new.now (O.log out.old) (O.log out.new)) }
 {
-    let found = match find_all(alloc, old, new, matching, limits) {
+    let found = match find_all(alloc, old, new, matching, assuming.assumed, limits) {
         Ok(found) => found,
         Err(_) => return Err(ToolFault::Memory),
     };
-    match write_found(alloc, old, new, matching, &found, out) {
+    match write_found(alloc, old, new, matching, &found, assuming, out) {
         Ok(counts) => Ok(Told { counts, found }),
         Err(fault) => {
             drop(found);
@@ -160,7 +187,7 @@ fn write_matched<O: Sink>(
     }
 }
 
-/// Judges two programs over runs by what belongs together in them by names, and writes what is found.
+/// Judges two programs over runs in which what is assumed is true, by what belongs together in them by names, and writes what is found.
 ///
 /// # Errors
 ///
@@ -170,16 +197,17 @@ pub(crate) fn write_runs<O: Sink>(
     limits: Limits,
     old: &Program,
     new: &Program,
+    assuming: RunsAssuming<'_>,
     out: &mut O,
 ) -> Result<Written, ToolFault>
-    ensures done { IfOk result (λ w. WritesKeeping old.now new.now w.kept.matching w.kept.found (O.log out.old) (O.log out.new) w.counts) }
-    ensures failed { IfErr result (FailsToWriteRuns old.now new.now (O.log out.old) (O.log out.new)) }
+    ensures done { IfOk result (λ w. WritesKeeping (assumption assuming.entry) old.now new.now w.kept.matching w.kept.found (O.log out.old) (O.log out.new) w.counts) }
+    ensures failed { IfErr result (FailsToWriteRuns (assumption assuming.entry) old.now new.now (O.log out.old) (O.log out.new)) }
 {
     let matching = match Matching::by_names(alloc, old, new) {
         Ok(matching) => matching,
         Err(_) => return Err(ToolFault::Memory),
     };
-    match write_matched(alloc, limits, old, new, &matching, out) {
+    match write_matched(alloc, limits, old, new, &matching, assuming, out) {
         Ok(told) => Ok(Written {
             counts: told.counts,
             kept: Kept {

@@ -1,67 +1,111 @@
 -- What is found, written whole or in part, and how the judging ends by it.
-use Rattle.std.proofs.Common.{◌≡◌, ◌∙◌, Bool, Err, List, Ok, ap, false, inl, inr, refl, subst, true}
+use Rattle.std.proofs.Common.{◌≡◌, ◌∙◌, ◌∷◌, Bool, Err, List, [], None, Ok, Option, Some, ap, false, inl, inr, map, refl, subst, sym, true}
 use Rattle.diagram_program.specs.Program.{Drawing}
+use Rattle.scan_cycle.specs.Programs.{diagram_of}
+use Rattle.scan_cycle.specs.Rung.{Held}
+use Rattle.scan_cycle.specs.Runs.{OneScan}
+use Rattle.scan_cycle.specs.Scan.{after_scan}
 use Rattle.scan_cycle.specs.Standing.{fresh}
 use Rattle.invariant_runs.specs.Staying.{IsStayingOf}
-use Rattle.invariant_sets.specs.Invariants.{IsStaying}
+use Rattle.invariant_cases.specs.Assuming.{Assumed, nothing}
+use Rattle.invariant_sets.specs.Invariants.{AreAllowed, IsStayingAssuming}
 use Rattle.invariant_sets.specs.declared.staying.Staying.{Staying}
 use Rattle.diff_matching.specs.Matching.{Matching}
 use Rattle.diff_matching.specs.Names.{IsByNames}
-use Rattle.diff_meaning.specs.Counting.{AreOfPrograms, StayFromFresh}
+use Rattle.diff_matching.specs.Runs.{new_scan, old_scan}
+use Rattle.diff_cases.specs.Assuming.{BothAssumed, assumed_of_both, nothing_of_both}
+use Rattle.diff_meaning.specs.Counting.{AreOfPrograms, AreSaidOf, StayAmong, StayFromFresh}
 use Rattle.diff_meaning.specs.Verdicts.{AreTrue}
 use Rattle.diff_meaning.specs.Witnesses.{AreWitnesses}
 use Rattle.diff_meaning.specs.declared.counted.Counted.{Counted}
-use Rattle.diff_meaning.specs.declared.counted.Counted.TheVariants.{All, Reachable}
+use Rattle.diff_meaning.specs.declared.counted.CountedStates.{CountedStates}
+use Rattle.diff_meaning.specs.declared.counted.CountedStates.TheVariants.{All, Reachable}
 use Rattle.diff_meaning.specs.declared.verdict.Verdicts.{Verdicts}
 use Rattle.diff_meaning.specs.declared.witness.Witness.{Witness}
-use Rattle.diff_findings.specs.Equivalence.{IsSaidOfRuns}
+use Rattle.diff_findings.specs.Equivalence.{IsSaidOfRuns, IsSaidOfRunsAssuming}
 use Rattle.diff_findings.specs.Findings.{findings}
 use Rattle.diff_findings.specs.declared.finding.Finding.{Finding}
 use Rattle.text_findings.specs.FindingText.{findings_text}
 use Rattle.io_text.specs.Log.{PutsAll, WriteLog}
 use Rattle.cli_inputs.specs.declared.fault.ToolFault.{ToolFault}
 use Rattle.cli_questions.specs.declared.counting.ListCounts.{ListCounts}
-use Rattle.cli_verdicts.specs.Ending.{AreCounted, FailsToWrite, WritesJudged, WritesKept, verdict_counts}
+use Rattle.cli_diff.specs.Assumed.{Assumption}
+use Rattle.cli_verdicts.specs.Ending.{AreAsked, AreCounted, FailsToWrite, IsSaidWhere, WritesJudged, WritesKept, assumed_in, assumption_of, verdict_counts}
 use Rattle.cli_verdicts.specs.declared.writing.Wanted.{Wanted}
 
 -- ---- which states count
 
-staying_of : (p : Drawing) (staying : Staying) → IsStaying p (fresh p) staying → IsStayingOf p staying
-staying_of p staying is = record { set = is.steady.set; apart = is.apart.outside }
+staying_of : (p : Drawing) (a : Assumed) (staying : Staying) → IsStayingAssuming p a (fresh p) staying → IsStayingOf p staying
+staying_of p a staying is = record { set = is.steady.set; apart = is.apart.outside }
 
-pub of_programs : (reachable : Bool) (p q : Drawing) (c : Counted) → AreCounted reachable p q c → AreOfPrograms c p q
-of_programs false p q All count = tt
-of_programs true p q (Reachable old new) count = (staying_of p old count.0, staying_of q new count.1)
-of_programs true p q All none = absurd none
-of_programs false p q (Reachable old new) none = absurd none
+said_of : (reachable : Bool) (a : BothAssumed) (p q : Drawing) (c : CountedStates) → AreAsked reachable a p q c → AreSaidOf c p q
+said_of false a p q All asked = tt
+said_of true a p q (Reachable old new) asked = (staying_of p a.of_old old asked.0, staying_of q a.of_new new asked.1)
+said_of true a p q All none = absurd none
+said_of false a p q (Reachable old new) none = absurd none
 
-pub from_fresh : (reachable : Bool) (p q : Drawing) (c : Counted) → AreCounted reachable p q c → StayFromFresh c p q
-from_fresh false p q All count = tt
-from_fresh true p q (Reachable old new) count = count
-from_fresh true p q All none = absurd none
-from_fresh false p q (Reachable old new) none = absurd none
+stay_among : (reachable : Bool) (a : BothAssumed) (p q : Drawing) (c : CountedStates) → AreAsked reachable a p q c → StayAmong a c p q
+stay_among false a p q All asked = tt
+stay_among true a p q (Reachable old new) asked = asked
+stay_among true a p q All none = absurd none
+stay_among false a p q (Reachable old new) none = absurd none
+
+pub of_programs : (a : Option Assumption) (reachable : Bool) (p q : Drawing) (c : Counted) → AreCounted a reachable p q c → AreOfPrograms c p q
+of_programs a reachable p q c count = said_of reachable (assumed_in a p q) p q c.states count.0
+
+pub from_fresh : (a : Option Assumption) (reachable : Bool) (p q : Drawing) (c : Counted) → AreCounted a reachable p q c → StayFromFresh c p q
+from_fresh a reachable p q c count =
+    subst (λ (b : BothAssumed). StayAmong b c.states p q) (sym count.1) (stay_among reachable (assumed_in a p q) p q c.states count.0)
+
+-- What is asked for counts, by what is assumed.
+pub counted_so : (a : Option Assumption) (reachable : Bool) (p q : Drawing) (c : Counted) (b : BothAssumed) → b ≡ assumed_in a p q → AreAsked reachable b p q c.states
+    → assumed_of_both c.assumed ≡ b → AreCounted a reachable p q c
+counted_so a reachable p q c b is asked same = (subst (λ (x : BothAssumed). AreAsked reachable x p q c.states) is asked, same ∙ is)
+
+-- ---- what is said of runs
+
+-- Where nothing is assumed any scans are allowed.
+all_allowed : (p : Drawing) (scans : List OneScan) (h : Held) → AreAllowed p nothing scans h
+all_allowed p [] h = tt
+all_allowed p (scan ∷ more) h = (refl, all_allowed p more (after_scan (diagram_of p) scan.moment scan.inputs h))
+
+said_of_all : (m : Matching) (p q : Drawing) (v : Verdicts) (is_equivalent : Bool) → IsSaidOfRunsAssuming nothing_of_both m p q v is_equivalent
+    → IsSaidOfRuns m p q v is_equivalent
+said_of_all m p q v true said = (
+  said.0,
+  said.1,
+  said.2,
+  λ scans runs. said.3 scans runs (record { of_old = all_allowed p (map old_scan scans) (fresh p).held; of_new = all_allowed q (map new_scan scans) (fresh q).held }),
+)
+said_of_all m p q v false said = said
+
+pub said_where : (a : Option Assumption) (b : BothAssumed) (m : Matching) (p q : Drawing) (v : Verdicts) (is_equivalent : Bool) → b ≡ assumed_in a p q
+    → IsSaidOfRunsAssuming b m p q v is_equivalent → IsSaidWhere a m p q v is_equivalent
+said_where None b m p q v is_equivalent is said =
+    said_of_all m p q v is_equivalent (subst (λ (x : BothAssumed). IsSaidOfRunsAssuming x m p q v is_equivalent) is said)
+said_where (Some a) b m p q v is_equivalent is said = subst (λ (x : BothAssumed). IsSaidOfRunsAssuming x m p q v is_equivalent) is said
 
 -- ---- what is written
 
-module _ (p q : Drawing) (m : Matching) (v : Verdicts) (list : List Finding) (o o' : WriteLog) (same : list ≡ findings p q m v) where
-  pub listed : (is_equivalent : Bool) (n : ListCounts) → IsSaidOfRuns m p q v is_equivalent → n ≡ verdict_counts list is_equivalent
-      → PutsAll o o' (findings_text p q list) → WritesJudged p q m v o o' (Ok n)
+module _ (a : Option Assumption) (p q : Drawing) (m : Matching) (v : Verdicts) (list : List Finding) (o o' : WriteLog) (same : list ≡ findings p q m v) where
+  pub listed : (is_equivalent : Bool) (n : ListCounts) → IsSaidWhere a m p q v is_equivalent → n ≡ verdict_counts a list is_equivalent
+      → PutsAll o o' (findings_text p q list) → WritesJudged a p q m v o o' (Ok n)
   listed is_equivalent n said counted put = (
     subst (λ (l : List Finding). PutsAll o o' (findings_text p q l)) same put,
-    (is_equivalent, counted ∙ ap (λ (l : List Finding). verdict_counts l is_equivalent) same, said),
+    (is_equivalent, counted ∙ ap (λ (l : List Finding). verdict_counts a l is_equivalent) same, said),
   )
 
 module _ (w : Wanted) (p q : Drawing) (m : Matching) (c : Counted) (v : Verdicts) (o o' : WriteLog)
-    (names : IsByNames m p q) (count : AreCounted w.reachable p q c) (judged : AreTrue c m p q v) where
+    (names : IsByNames m p q) (count : AreCounted (assumption_of w.assumed) w.reachable p q c) (judged : AreTrue c m p q v) where
   pub found_all : (witnesses : List Witness) (n : ListCounts) → (w.keeps ≡ true → AreWitnesses c m p q v witnesses)
-      → WritesJudged p q m v o o' (Ok n) → WritesKept w p q m o o' witnesses n
+      → WritesJudged (assumption_of w.assumed) p q m v o o' (Ok n) → WritesKept w p q m o o' witnesses n
   found_all witnesses n kept written = (
     findings_text p q (findings p q m v),
     (record { matching = m; states = c; verdicts = v; names = names; count = count; judged = judged; written = refl; counted = written.1 }, refl, kept),
     written.0,
   )
 
-  pub found_some : (f : ToolFault) → WritesJudged p q m v o o' (Err f) → FailsToWrite w.reachable p q o o' f
+  pub found_some : (f : ToolFault) → WritesJudged (assumption_of w.assumed) p q m v o o' (Err f) → FailsToWrite (assumption_of w.assumed) w.reachable p q o o' f
   found_some f (inl h) = inl h
   found_some f (inr h) = inr (
     h.0,

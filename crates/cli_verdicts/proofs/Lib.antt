@@ -1,2 +1,3 @@
 mod Ends
 mod Finding
+mod Inputs

@@ -7,8 +7,9 @@ ghost use Rattle.cli_inputs.specs.Reports.{logs};
 ghost use Rattle.cli_inputs.specs.Setting.{given_by};
 ghost use Rattle.cli_questions.specs.Ending.{Ends, counts_line, unless_quiet};
 ghost use Rattle.cli_diff.specs.Ending.{RefusesOf};
-ghost use Rattle.cli_verdicts.specs.Ending.{BreaksVerdicts, CountsVerdicts, FailsToJudge, FindsKept, HasTextFault};
+ghost use Rattle.cli_verdicts.specs.Ending.{BreaksVerdicts, CountsVerdicts, FailsToJudge, FailsToJudgeAssuming, FindsKept, HasTextFault, assumption_of};
 
+use crate::assuming::AssumedOfBoth;
 use crate::reading::{Programs, read_programs};
 use crate::writing::{Kept, Wanted, Written, write_verdicts};
 use cli_arguments::VerdictRequest;
@@ -43,8 +44,8 @@ fn put_written<E: Sink>(quiet: bool, written: Written, err: &mut E) -> Result<Ke
     }
 }
 
-/// Judges two programs, as [`judge`] does, and returns what belongs together in them, and the states that show each difference where they are
-/// to be kept.
+/// Judges two programs, as [`judge`] does, where what is assumed of their inputs is true, if something is, and returns what belongs together in
+/// them, and the states that show each difference where they are to be kept.
 ///
 /// # Errors
 ///
@@ -54,22 +55,24 @@ pub fn judge_programs<O: Sink, E: Sink>(
     request: &VerdictRequest,
     texts: &DiffTexts,
     programs: &Programs,
+    assumed: Option<AssumedOfBoth<'_>>,
     keeps: bool,
     out: &mut O,
     err: &mut E,
 ) -> Result<Kept, u8>
     requires old { HasProgram (given_by texts.now.old).aliases (given_by texts.now.old).program programs.now.old }
     requires new { HasProgram (given_by texts.now.new).aliases (given_by texts.now.new).program programs.now.new }
-    ensures done { IfOk result (λ kept. Ends (FindsKept keeps request.now.reachable programs.now.old programs.now.new kept.matching kept.witnesses.items)
+    ensures done { IfOk result (λ kept. Ends (FindsKept (assumption_of assumed.entry) keeps request.now.reachable programs.now.old programs.now.new kept.matching kept.witnesses.items)
         request.now.quiet (O.log out.old) (O.log out.new) (PutsAll (E.log err.old) (E.log err.new))) }
     ensures status { IfErr result (λ status. status ≡ 1) }
     ensures failed { (save : WriteLog) → IfErr result (λ status.
-        FailsToJudge (given_by texts.now.old) (given_by texts.now.new) request.now (logs (O.log out.old) save (E.log err.old)) (logs (O.log out.new) save (E.log err.new))) }
+        FailsToJudgeAssuming (assumption_of assumed.entry) (given_by texts.now.old) (given_by texts.now.new) request.now (logs (O.log out.old) save (E.log err.old)) (logs (O.log out.new) save (E.log err.new))) }
 {
     let wanted = Wanted {
         looks: looks_of(request.looks),
         reachable: request.reachable,
         keeps,
+        assumed,
     };
     match write_verdicts(alloc, wanted, &programs.old, &programs.new, out) {
         Ok(written) => put_written(request.quiet, written, err),
@@ -93,7 +96,7 @@ fn judge_read<O: Sink, E: Sink>(
     ensures failed { (save : WriteLog) → result ≡ 1
         → FailsToJudge (given_by texts.now.old) (given_by texts.now.new) request.now (logs (O.log out.old) save (E.log err.old)) (logs (O.log out.new) save (E.log err.new)) }
 {
-    match judge_programs(alloc, request, texts, programs, false, out, err) {
+    match judge_programs(alloc, request, texts, programs, None, false, out, err) {
         Ok(kept) => {
             drop(kept);
             0

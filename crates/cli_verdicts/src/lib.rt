@@ -1,12 +1,14 @@
 //! Judges two programs: of each name, whether both leave it alike.
 #![tactic(auto)]
 
+mod assuming;
 mod counting;
 mod files;
 mod judging;
 mod reading;
 mod writing;
 
+pub use assuming::AssumedOfBoth;
 pub use files::judge_files;
 pub use judging::{judge, judge_programs};
 pub use reading::{Programs, read_programs};

@@ -1,6 +1,8 @@
 //! What is found of two programs, written.
 
 ghost use Rattle.std.specs.Prelude.{◌≡◌, IfErr, IfOk, true};
+ghost use Rattle.invariant_sets.specs.Invariants.{input_numbers};
+ghost use Rattle.diff_cases.specs.Assuming.{assumed_of_both};
 ghost use Rattle.diff_matching.specs.Names.{IsByNames};
 ghost use Rattle.diff_matching.specs.Runs.{HaveNoInput};
 ghost use Rattle.diff_matching.specs.Suited.{IsSuited};
@@ -8,8 +10,9 @@ ghost use Rattle.diff_meaning.specs.Counting.{StayFromFresh};
 ghost use Rattle.diff_meaning.specs.Verdicts.{AreTrue};
 ghost use Rattle.diff_meaning.specs.Witnesses.{AreWitnesses};
 ghost use Rattle.diff_findings.specs.Findings.{findings as findings_list};
-ghost use Rattle.cli_verdicts.specs.Ending.{AreCounted, FailsToWrite, WritesJudged, WritesKept, verdict_counts};
+ghost use Rattle.cli_verdicts.specs.Ending.{AreCounted, FailsToWrite, WritesJudged, WritesKept, assumed_in, assumption_of, verdict_counts};
 
+use crate::assuming::{AssumedOfBoth, InputsOfBoth, assumptions, inputs_of_both};
 use crate::counting::counted_of;
 use cli_inputs::ToolFault;
 use cli_questions::ListCounts;
@@ -25,13 +28,15 @@ use text_findings::write_findings;
 
 /// How two programs are judged.
 #[derive(Clone, Copy)]
-pub(crate) struct Wanted {
+pub(crate) struct Wanted<'a> {
     /// How many looks a verdict takes at most.
     pub looks: u32,
     /// Whether only states count in which it is so what stays so.
     pub reachable: bool,
     /// Whether states that show differences are kept.
     pub keeps: bool,
+    /// What is assumed of the inputs, where something is.
+    pub assumed: Option<AssumedOfBoth<'a>>,
 }
 
 /// What is kept of two programs that were judged.
@@ -60,16 +65,16 @@ pub(crate) struct Written {
 /// The verdicts on all that belongs together, and the states that show the differences.
 fn judged(
     alloc: Global,
-    wanted: Wanted,
+    wanted: Wanted<'_>,
     old: &Program,
     new: &Program,
     matching: &Matching,
-    counted: &Counted,
+    counted: &Counted<'_>,
 ) -> Result<Judgement, Memory>
     requires suited { IsSuited matching.now old.now new.now }
-    requires counted { AreCounted wanted.reachable old.now new.now counted.now }
+    requires counted { AreCounted (assumption_of wanted.assumed) wanted.reachable old.now new.now counted.now }
     ensures verdicts { IfOk result (λ j. AreTrue counted.now matching.now old.now new.now j.verdicts) }
-    ensures kept { wanted.keeps ≡ true → IfOk result (λ j. AreWitnesses counted.now matching.now old.now new.now j.verdicts j.witnesses.items) }
+    ensures kept { wanted.entry.keeps ≡ true → IfOk result (λ j. AreWitnesses counted.now matching.now old.now new.now j.verdicts j.witnesses.items) }
 {
     let mut judge = match Judge::new(alloc, old, new, matching, counted) {
         Ok(judge) => judge,
@@ -79,9 +84,14 @@ fn judged(
 }
 
 /// What is counted of findings.
-fn counts_of(list: &[Finding], is_equivalent: bool) -> ListCounts
-    ensures { result ≡ verdict_counts list.now is_equivalent }
+fn counts_of(
+    assumed: Option<AssumedOfBoth<'_>>,
+    list: &[Finding],
+    is_equivalent: bool,
+) -> ListCounts
+    ensures { result ≡ verdict_counts (assumption_of assumed.entry) list.now is_equivalent }
 {
+    let _assumed = assumed;
     let tally = count_verdicts(list);
     ListCounts::Verdicts {
         same: tally.same as u64,
@@ -95,20 +105,22 @@ fn counts_of(list: &[Finding], is_equivalent: bool) -> ListCounts
 fn write_list<O: Sink>(
     alloc: Global,
     compared: Compared<'_>,
+    assumed: Option<AssumedOfBoth<'_>>,
     list: &[Finding],
     out: &mut O,
 ) -> Result<ListCounts, ToolFault>
     requires no_input { HaveNoInput compared.matching.now compared.old.now compared.new.now }
     requires judged { AreTrue compared.counted.now compared.matching.now compared.old.now compared.new.now compared.verdicts.now }
     requires stays { StayFromFresh compared.counted.now compared.old.now compared.new.now }
+    requires assumed { assumed_of_both compared.counted.now.assumed ≡ assumed_in (assumption_of assumed) compared.old.now compared.new.now }
     requires list { list.now ≡ findings_list compared.old.now compared.new.now compared.matching.now compared.verdicts.now }
-    ensures { WritesJudged compared.entry.old.now compared.entry.new.now compared.entry.matching.now compared.entry.verdicts.now (O.log out.old) (O.log out.new) result }
+    ensures { WritesJudged (assumption_of assumed.entry) compared.entry.old.now compared.entry.new.now compared.entry.matching.now compared.entry.verdicts.now (O.log out.old) (O.log out.new) result }
 {
     let Ok(is_equivalent) = are_equivalent(alloc, compared, list) else {
         return Err(ToolFault::Memory);
     };
     match write_findings(compared.old, compared.new, list, out) {
-        Ok(()) => Ok(counts_of(list, is_equivalent)),
+        Ok(()) => Ok(counts_of(assumed, list, is_equivalent)),
         Err(_) => Err(ToolFault::Write),
     }
 }
@@ -117,18 +129,20 @@ fn write_list<O: Sink>(
 fn write_judged<O: Sink>(
     alloc: Global,
     compared: Compared<'_>,
+    assumed: Option<AssumedOfBoth<'_>>,
     out: &mut O,
 ) -> Result<ListCounts, ToolFault>
     requires no_input { HaveNoInput compared.matching.now compared.old.now compared.new.now }
     requires judged { AreTrue compared.counted.now compared.matching.now compared.old.now compared.new.now compared.verdicts.now }
     requires stays { StayFromFresh compared.counted.now compared.old.now compared.new.now }
-    ensures { WritesJudged compared.entry.old.now compared.entry.new.now compared.entry.matching.now compared.entry.verdicts.now (O.log out.old) (O.log out.new) result }
+    requires assumed { assumed_of_both compared.counted.now.assumed ≡ assumed_in (assumption_of assumed) compared.old.now compared.new.now }
+    ensures { WritesJudged (assumption_of assumed.entry) compared.entry.old.now compared.entry.new.now compared.entry.matching.now compared.entry.verdicts.now (O.log out.old) (O.log out.new) result }
 {
     let list = match findings(alloc, compared) {
         Ok(list) => list,
         Err(_) => return Err(ToolFault::Memory),
     };
-    let written = write_list(alloc, compared, &list, out);
+    let written = write_list(alloc, compared, assumed, &list, out);
     drop(list);
     written
 }
@@ -136,19 +150,19 @@ fn write_judged<O: Sink>(
 /// The same, once it is known which states count.
 fn write_counted<O: Sink>(
     alloc: Global,
-    wanted: Wanted,
+    wanted: Wanted<'_>,
     old: &Program,
     new: &Program,
     matching: &Matching,
-    counted: &Counted,
+    counted: &Counted<'_>,
     out: &mut O,
 ) -> Result<Told, ToolFault>
     requires names { IsByNames matching.now old.now new.now }
     requires suited { IsSuited matching.now old.now new.now }
     requires no_input { HaveNoInput matching.now old.now new.now }
-    requires counted { AreCounted wanted.reachable old.now new.now counted.now }
-    ensures done { IfOk result (λ t. WritesKept wanted old.now new.now matching.now (O.log out.old) (O.log out.new) t.witnesses.items t.counts) }
-    ensures failed { IfErr result (FailsToWrite wanted.reachable old.now new.now (O.log out.old) (O.log out.new)) }
+    requires counted { AreCounted (assumption_of wanted.assumed) wanted.reachable old.now new.now counted.now }
+    ensures done { IfOk result (λ t. WritesKept wanted.entry old.now new.now matching.now (O.log out.old) (O.log out.new) t.witnesses.items t.counts) }
+    ensures failed { IfErr result (FailsToWrite (assumption_of wanted.entry.assumed) wanted.entry.reachable old.now new.now (O.log out.old) (O.log out.new)) }
 {
     let Judgement {
         verdicts,
@@ -164,7 +178,7 @@ fn write_counted<O: Sink>(
         counted,
         verdicts: &verdicts,
     };
-    let written = write_judged(alloc, compared, out);
+    let written = write_judged(alloc, compared, wanted.assumed, out);
     drop(verdicts);
     match written {
         Ok(counts) => Ok(Told { counts, witnesses }),
@@ -175,10 +189,38 @@ fn write_counted<O: Sink>(
     }
 }
 
+/// The same, once it is known which inputs there are.
+fn write_assumed<O: Sink>(
+    alloc: Global,
+    wanted: Wanted<'_>,
+    inputs: &InputsOfBoth,
+    old: &Program,
+    new: &Program,
+    matching: &Matching,
+    out: &mut O,
+) -> Result<Told, ToolFault>
+    requires old_inputs { inputs.now.old.items ≡ input_numbers old.now }
+    requires new_inputs { inputs.now.new.items ≡ input_numbers new.now }
+    requires names { IsByNames matching.now old.now new.now }
+    requires suited { IsSuited matching.now old.now new.now }
+    requires no_input { HaveNoInput matching.now old.now new.now }
+    ensures done { IfOk result (λ t. WritesKept wanted.entry old.now new.now matching.now (O.log out.old) (O.log out.new) t.witnesses.items t.counts) }
+    ensures failed { IfErr result (FailsToWrite (assumption_of wanted.entry.assumed) wanted.entry.reachable old.now new.now (O.log out.old) (O.log out.new)) }
+{
+    let assumed = assumptions(wanted.assumed, inputs, old, new);
+    let counted = match counted_of(alloc, wanted.reachable, assumed, old, new) {
+        Ok(counted) => counted,
+        Err(_) => return Err(ToolFault::Memory),
+    };
+    let told = write_counted(alloc, wanted, old, new, matching, &counted, out);
+    drop(counted);
+    told
+}
+
 /// The same, once it is known what belongs together.
 fn write_matched<O: Sink>(
     alloc: Global,
-    wanted: Wanted,
+    wanted: Wanted<'_>,
     old: &Program,
     new: &Program,
     matching: &Matching,
@@ -187,15 +229,15 @@ fn write_matched<O: Sink>(
     requires names { IsByNames matching.now old.now new.now }
     requires suited { IsSuited matching.now old.now new.now }
     requires no_input { HaveNoInput matching.now old.now new.now }
-    ensures done { IfOk result (λ t. WritesKept wanted old.now new.now matching.now (O.log out.old) (O.log out.new) t.witnesses.items t.counts) }
-    ensures failed { IfErr result (FailsToWrite wanted.reachable old.now new.now (O.log out.old) (O.log out.new)) }
+    ensures done { IfOk result (λ t. WritesKept wanted.entry old.now new.now matching.now (O.log out.old) (O.log out.new) t.witnesses.items t.counts) }
+    ensures failed { IfErr result (FailsToWrite (assumption_of wanted.entry.assumed) wanted.entry.reachable old.now new.now (O.log out.old) (O.log out.new)) }
 {
-    let counted = match counted_of(alloc, wanted.reachable, old, new) {
-        Ok(counted) => counted,
+    let inputs = match inputs_of_both(alloc, old, new) {
+        Ok(inputs) => inputs,
         Err(_) => return Err(ToolFault::Memory),
     };
-    let told = write_counted(alloc, wanted, old, new, matching, &counted, out);
-    drop(counted);
+    let told = write_assumed(alloc, wanted, &inputs, old, new, matching, out);
+    drop(inputs);
     told
 }
 
@@ -206,13 +248,13 @@ fn write_matched<O: Sink>(
 /// `Memory`, and then nothing was written; `Write` where the writer failed, and then a prefix of the text was.
 pub(crate) fn write_verdicts<O: Sink>(
     alloc: Global,
-    wanted: Wanted,
+    wanted: Wanted<'_>,
     old: &Program,
     new: &Program,
     out: &mut O,
 ) -> Result<Written, ToolFault>
-    ensures done { IfOk result (λ w. WritesKept wanted old.now new.now w.kept.matching (O.log out.old) (O.log out.new) w.kept.witnesses.items w.counts) }
-    ensures failed { IfErr result (FailsToWrite wanted.reachable old.now new.now (O.log out.old) (O.log out.new)) }
+    ensures done { IfOk result (λ w. WritesKept wanted.entry old.now new.now w.kept.matching (O.log out.old) (O.log out.new) w.kept.witnesses.items w.counts) }
+    ensures failed { IfErr result (FailsToWrite (assumption_of wanted.entry.assumed) wanted.entry.reachable old.now new.now (O.log out.old) (O.log out.new)) }
 {
     let matching = match Matching::by_names(alloc, old, new) {
         Ok(matching) => matching,

@@ -6,13 +6,12 @@ use Rattle.diagram_program.specs.Program.{Drawing}
 use Rattle.scan_cycle.specs.Programs.{diagram_of}
 use Rattle.scan_cycle.specs.Standing.{Standing}
 use Rattle.text_drawing.specs.Showing.{IsDrawn, OneScan, one_scan}
-use Rattle.text_drawing.specs.declared.picture.Style.{Style}
 use Rattle.causes_query.specs.Assignment.{assignment}
 use Rattle.causes_query.specs.declared.fault.CauseFault.{CauseFault}
 use Rattle.causes_query.specs.Causes.{question}
 use Rattle.causes_query.specs.Refusal.{scan_refusal}
 use Rattle.io_text.specs.Log.{WriteLog}
-use Rattle.cli_views.specs.Views.{broken_first, coil_refusal, shown_scan, style_for}
+use Rattle.cli_views.specs.Views.{broken_first, coil_refusal, shown_inputs, shown_scan, style_for}
 use Rattle.cli_inputs.specs.Setting.{Given}
 use Rattle.cli_arguments.specs.declared.request.ShowRequest.{ShowRequest}
 use Rattle.io_text.specs.Text.{records_of}
@@ -40,19 +39,21 @@ same_refusal v p s now n coil listed given of_coil as_given at number =
     ∙ ap (λ t. scan_refusal (question p s t 0 given) (unwrap_or v.number 0)) (sym at)
     ∙ ap (λ k. scan_refusal (question p s now 0 given) k) (sym number)
 
+-- Its inputs are those that are asked for.
+pub same_inputs : (v : ShowRequest) (p : Drawing) (s : Standing) (n : ℕ) (listed given : List ℕ) (inputs : List Bool) → given ≡ listed → n ≡ unwrap_or v.number 0
+    → inputs ≡ assignment (diagram_of p).inputs given n s.held.values → inputs ≡ shown_inputs v p s listed
+same_inputs v p s n listed given inputs as_given number made =
+    made ∙ ap (λ xs. assignment (diagram_of p).inputs xs n s.held.values) as_given ∙ ap (λ k. assignment (diagram_of p).inputs listed k s.held.values) number
+
 -- What is drawn of it is what is asked.
-pub same_drawing : (g : Given) (v : ShowRequest) (p : Drawing) (s : Standing) (now n : ℕ) (coil : Option ℕ) (listed given text : List ℕ) (inputs image : List Bool) (style : Style)
-    (shown : List ℕ) → given ≡ listed → now ≡ unwrap_or v.moment s.moment → n ≡ unwrap_or v.number 0 → text ≡ g.program → image ≡ inputs
-    → inputs ≡ assignment (diagram_of p).inputs given n s.held.values → style ≡ style_for v.medium
-    → IsDrawn style (one_scan text p s image now coil) shown → IsDrawn (style_for v.medium) (shown_scan g v p s coil listed) shown
-same_drawing g v p s now n coil listed given text inputs image style shown as_given at number same read made by drawn =
-    let flags = (diagram_of p).inputs in
-    let values : image ≡ assignment flags listed (unwrap_or v.number 0) s.held.values =
-    read ∙ made ∙ ap (λ xs. assignment flags xs n s.held.values) as_given ∙ ap (λ k. assignment flags listed k s.held.values) number in
+pub same_drawing : (g : Given) (v : ShowRequest) (p : Drawing) (s : Standing) (now : ℕ) (coil : Option ℕ) (listed text : List ℕ) (image inputs : List Bool)
+    (shown : List ℕ) → now ≡ unwrap_or v.moment s.moment → text ≡ g.program → image ≡ inputs → inputs ≡ shown_inputs v p s listed
+    → IsDrawn (style_for v.medium) (one_scan text p s image now coil) shown → IsDrawn (style_for v.medium) (shown_scan g v p s coil listed) shown
+same_drawing g v p s now coil listed text image inputs shown at same read made drawn =
     let scan : one_scan text p s image now coil ≡ shown_scan g v p s coil listed =
-    ap (λ t. one_scan t p s image now coil) same ∙ ap (λ xs. one_scan g.program p s xs now coil) values
-    ∙ ap (λ t. one_scan g.program p s (assignment flags listed (unwrap_or v.number 0) s.held.values) t coil) at in
-    subst (λ (x : OneScan). IsDrawn (style_for v.medium) x shown) scan (subst (λ (x : Style). IsDrawn x (one_scan text p s image now coil) shown) by drawn)
+    ap (λ t. one_scan t p s image now coil) same ∙ ap (λ xs. one_scan g.program p s xs now coil) (read ∙ made)
+    ∙ ap (λ t. one_scan g.program p s (shown_inputs v p s listed) t coil) at in
+    subst (λ (x : OneScan). IsDrawn (style_for v.medium) x shown) scan drawn
 
 pub same_stimulus : (every other : ℕ) (p : Drawing) (s t : Standing) (a b : List ℕ) (old new : WriteLog) (r : Result ℕ SimFault) → a ≡ b → every ≡ other
     → SimulatesEvery every p s (records_of a) t old new r → SimulatesEvery other p s (records_of b) t old new r

@@ -2,4 +2,5 @@ mod Abouts
 mod Endings
 mod Growing
 mod Names
+mod Notes
 mod Plain

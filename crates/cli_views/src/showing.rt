@@ -1,6 +1,6 @@
 //! A request for the drawing with the power flow of one scan.
 
-ghost use Rattle.std.specs.Prelude.{◌≡◌, ◌≤◌, ◌⊎◌, ◌++◌, ℕ, List, IfErr, IfOk, None, flat_map, map, string_bytes};
+ghost use Rattle.std.specs.Prelude.{◌≡◌, ◌<◌, ◌≤◌, ◌∷◌, [], ◌⊎◌, ◌++◌, ℕ, List, IfErr, IfNone, IfOk, IfSome, None, flat_map, length, map, string_bytes};
 ghost use Rattle.diagram_reader.specs.Reading.{IsProgram};
 ghost use Rattle.diagram_reader.specs.Titled.{without_aliases};
 ghost use Rattle.scan_cycle.specs.Standing.{Fits};
@@ -122,19 +122,38 @@ fn inputs_of(
     }
 }
 
+/// The first of some texts, and those behind it.
+fn first_text(texts: &[String]) -> Option<(&[u8], &[String])>
+    ensures first { IfSome result (λ x. map string_bytes texts.now ≡ x.0.now ∷ map string_bytes x.1.now) }
+    ensures shorter { IfSome result (λ x. length x.1.now < length texts.now) }
+    ensures none { IfNone result (map string_bytes texts.now ≡ []) }
+{
+    match texts {
+        [text, behind @ ..] => Some((text.as_str().as_bytes(), behind)),
+        [] => None,
+    }
+}
+
+/// Writes that an expression is assumed.
+fn put_note<O: Sink>(expression: &[u8], out: &mut O) -> Result<(), WriteFault>
+    ensures { Puts (O.log out.old) (O.log out.new) result (assumed_note expression.now) }
+{
+    let pieces = [
+        Piece::Text(b"(* assumed: "),
+        Piece::Text(expression),
+        Piece::Text(b" *)\n"),
+    ];
+    put_pieces(out, pieces.as_slice())
+}
+
 /// Writes which expressions are assumed.
 fn put_assumed<O: Sink>(expressions: &[String], out: &mut O) -> Result<(), WriteFault>
     ensures { Puts (O.log out.old) (O.log out.new) result (flat_map assumed_note (map string_bytes expressions.now)) }
 {
-    let [expression, behind @ ..] = expressions else {
+    let Some((expression, behind)) = first_text(expressions) else {
         return Ok(());
     };
-    let pieces = [
-        Piece::Text(b"(* assumed: "),
-        Piece::Text(expression.as_str().as_bytes()),
-        Piece::Text(b" *)\n"),
-    ];
-    put_pieces(out, pieces.as_slice())?;
+    put_note(expression, out)?;
     put_assumed(behind, out)
 }
 

@@ -121,7 +121,7 @@ pub fn judge_keeping<O: Sink, E: Sink>(
         Ok(programs) => programs,
         Err(status) => return Err(status),
     };
-    match judge_programs(alloc, request, texts, &programs, true, out, err) {
+    match judge_programs(alloc, request, texts, &programs, None, true, out, err) {
         Ok(kept) => Ok(Judged {
             programs,
             kept,

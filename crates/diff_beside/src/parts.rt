@@ -13,7 +13,7 @@ use crate::suiting::is_suited;
 use diagram_program::Program;
 use diff_matching::{Matching, agree_but_inputs};
 use diff_meaning::laws::fresh_runs_agree;
-use diff_meaning::{Counted, are_all_same};
+use diff_meaning::{Counted, CountedStates, are_all_same};
 use diff_runs::are_pairs_of_inputs;
 use diff_verdicts::{Judge, Judgement, judge_all};
 use scan_cycle::{Memory, State};
@@ -39,7 +39,7 @@ fn judged(
     matching: &Matching,
     part: &Program,
     whole: &Program,
-    counted: &Counted,
+    counted: &Counted<'_>,
     looks: u32,
 ) -> Result<Judgement, Memory>
     requires suited { IsSuited matching.now part.now whole.now }
@@ -66,7 +66,7 @@ fn stay_alike(
     requires start { Agree matching.now (fresh part.now).held (fresh whole.now).held }
     ensures { IfOk result (λ b. IsTrue b → AgreeFromFresh matching.now part.now whole.now) }
 {
-    let counted = Counted::All;
+    let counted = Counted::of(CountedStates::All);
     let judgement = judged(alloc, matching, part, whole, &counted, looks)?;
     fresh_runs_agree(part, whole);
     Ok(are_all_same(&judgement.verdicts))

@@ -1,3 +1,4 @@
+mod Assumed
 mod Contents
 mod PinnedBack
 mod Scanned

@@ -12,7 +12,8 @@ use Rattle.invariant_cases.specs.declared.outcome.Outcome.TheVariants.{Anything,
 use Rattle.invariant_cases.specs.declared.point.Point.{Point}
 use Rattle.invariant_cases.specs.declared.point.Point.TheVariants.{Variable, Output, Memory, Answer as AnswerOf}
 use Rattle.diff_matching.specs.Matching.{Matching}
-use Rattle.diff_cases.specs.Cases.{IsSettledAlike, answer_in, answering_in, pinned_in, told_in}
+use Rattle.diff_cases.specs.Assuming.{BothAssumed}
+use Rattle.diff_cases.specs.Cases.{IsSettledAlikeAssuming, answer_in, answering_in, pinned_in, told_in}
 use Rattle.diff_cases.specs.declared.target.Target.{Target}
 
 set_back : {A : Type 0} (xs : List A) (i : ℕ) (x d : A) → set (set xs i x) i (get_or xs i d) ≡ xs
@@ -72,7 +73,7 @@ not_not true e = refl
 not_not false e = sym e
 
 -- from what is known in both, as it is the same afterwards
-pub settled_from : (p q : Drawing) (m : Matching) (target : Target) (f g : Known Tri Outcome → Known Tri Outcome) (k l u v : Known Tri Outcome) → u ≡ k → v ≡ l
-    → IsSettledAlike p q m target (f u) (g v) → IsSettledAlike p q m target (f k) (g l)
-settled_from p q m target f g k l u v d e settled =
-    subst (λ (x : Known Tri Outcome). IsSettledAlike p q m target (f x) (g l)) d (subst (λ (y : Known Tri Outcome). IsSettledAlike p q m target (f u) (g y)) e settled)
+pub settled_from : (p q : Drawing) (a : BothAssumed) (m : Matching) (target : Target) (f g : Known Tri Outcome → Known Tri Outcome) (k l u v : Known Tri Outcome) → u ≡ k → v ≡ l
+    → IsSettledAlikeAssuming p q a m target (f u) (g v) → IsSettledAlikeAssuming p q a m target (f k) (g l)
+settled_from p q a m target f g k l u v d e settled =
+    subst (λ (x : Known Tri Outcome). IsSettledAlikeAssuming p q a m target (f x) (g l)) d (subst (λ (y : Known Tri Outcome). IsSettledAlikeAssuming p q a m target (f u) (g y)) e settled)

@@ -12,7 +12,8 @@ use Rattle.scan_symbolic.specs.KnownScan.{Known}
 use Rattle.invariant_cases.specs.Allowing.{AllowsState}
 use Rattle.invariant_cases.specs.declared.outcome.Outcome.{Outcome}
 use Rattle.diff_matching.specs.Matching.{Agree, AgreeOnInputs, AreShared, Matching, scanned}
-use Rattle.diff_cases.specs.Cases.{AreOfOneKind, IsSettledAlike}
+use Rattle.diff_cases.specs.Assuming.{AreTrueIn, BothAssumed}
+use Rattle.diff_cases.specs.Cases.{AreOfOneKind, IsSettledAlikeAssuming}
 use Rattle.diff_cases.specs.declared.target.Target.{Target}
 use Rattle.diff_cases.specs.declared.target.Target.TheVariants.{Variable, Memory, Contents}
 
@@ -31,9 +32,10 @@ abbrev pub IsComparable : Matching → Drawing → Drawing → Target → Type 0
 IsComparable m p q (Contents x) = Contains m.instances x × AreOfOneKind p q x.old x.new
 IsComparable m p q other = Unit {0}
 
--- What is settled alike is so after one scan of each at the same moment, from any two states that agree, also on the inputs that they store, and
--- that what is known allows. The scans give no input a value, so that inputs keep theirs.
+-- What is settled alike is so after one scan of each at the same moment, from any two states that agree, also on the inputs that they store, in
+-- which what is assumed is true, and that what is known allows. The scans give no input a value, so that inputs keep theirs.
 abbrev pub SettledAlikeHolds : Drawing → Drawing → Type 0
-SettledAlikeHolds p q = (m : Matching) (target : Target) → IsComparable m p q target → (k l : Known Tri Outcome) → IsSettledAlike p q m target k l
-    → (moment : ℕ) (h g : Held) → AllowsState p moment k h → AllowsState q moment l g → Agree m h g → AgreeOnInputs m h g
+SettledAlikeHolds p q = (a : BothAssumed) (m : Matching) (target : Target) → IsComparable m p q target → (k l : Known Tri Outcome)
+    → IsSettledAlikeAssuming p q a m target k l
+    → (moment : ℕ) (h g : Held) → AllowsState p moment k h → AllowsState q moment l g → Agree m h g → AgreeOnInputs m h g → AreTrueIn a h g
     → AreAlike target (after_scan (diagram_of p) moment [] h) (after_scan (diagram_of q) moment [] g)

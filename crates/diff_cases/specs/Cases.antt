@@ -1,6 +1,6 @@
--- What is settled by cases to be left alike by one scan of each of two programs: scans over three values tell it; or it is so in each of two cases,
--- one where something is OFF in both programs and one where it is ON in both, or in each of three, one for each answer of an instance of both, and
--- so on.
+-- What is settled by cases to be left alike by one scan of each of two programs: scans over three values tell it, or it is told that what is
+-- assumed is false; or it is so in each of two cases, one where something is OFF in both programs and one where it is ON in both, or in each of
+-- three, one for each answer of an instance of both, and so on.
 use Rattle.std.specs.Prelude.{◌≡◌, ◌⊎◌, ℕ, true, false, [], Option, Some, None, Contains}
 use Rattle.diagram_declarations.specs.declared.kind.BlockKind.{BlockKind}
 use Rattle.diagram_declarations.specs.declared.kind.BlockKind.TheVariants.{Sr, Rs}
@@ -18,6 +18,7 @@ use Rattle.invariant_cases.specs.declared.outcome.Outcome.{Outcome}
 use Rattle.invariant_cases.specs.declared.point.Point.{Point}
 use Rattle.invariant_cases.specs.declared.point.Point.TheVariants as point
 use Rattle.diff_matching.specs.Matching.{Matching}
+use Rattle.diff_cases.specs.Assuming.{BothAssumed, IsToldFalse}
 use Rattle.diff_cases.specs.declared.joint.Joint.{Joint}
 use Rattle.diff_cases.specs.declared.joint.Joint.TheVariants.{Points, Instances}
 use Rattle.diff_cases.specs.declared.joint.JointInstances.{JointInstances}
@@ -119,13 +120,17 @@ IsToldAlike p q (Variable x) k l = IsPointAlike p q (point.Variable x.old) (poin
 IsToldAlike p q (Memory x) k l = IsPointAlike p q (point.Memory x.old) (point.Memory x.new) k l
 IsToldAlike p q (Contents x) k l = AreContentsAlike ((diagram_of p).kind x.old) p q x.old x.new k l
 
--- One scan of each leaves the target alike, from what is known of a state of each of which both agree on what belongs together.
-pub data IsSettledAlike (p q : Drawing) (m : Matching) (target : Target) : Known Tri Outcome → Known Tri Outcome → Type 0 where
-  by_scan : (k l : Known Tri Outcome) → IsToldAlike p q target k l → IsSettledAlike p q m target k l
+-- One scan of each leaves the target alike, from what is known of a state of each of which both agree on what belongs together, where what is
+-- assumed of the inputs is true.
+pub data IsSettledAlikeAssuming (p q : Drawing) (a : BothAssumed) (m : Matching) (target : Target) : Known Tri Outcome → Known Tri Outcome → Type 0 where
+  by_scan : (k l : Known Tri Outcome) → IsToldAlike p q target k l → IsSettledAlikeAssuming p q a m target k l
+  by_assumption : (k l : Known Tri Outcome) → IsToldFalse a k l → IsSettledAlikeAssuming p q a m target k l
   by_cases : (k l : Known Tri Outcome) (joint : JointPoint) → BelongTogether m joint
-      → IsSettledAlike p q m target (pinned_in k joint.old (three_known false)) (pinned_in l joint.new (three_known false))
-      → IsSettledAlike p q m target (pinned_in k joint.old (three_known true)) (pinned_in l joint.new (three_known true)) → IsSettledAlike p q m target k l
+      → IsSettledAlikeAssuming p q a m target (pinned_in k joint.old (three_known false)) (pinned_in l joint.new (three_known false))
+      → IsSettledAlikeAssuming p q a m target (pinned_in k joint.old (three_known true)) (pinned_in l joint.new (three_known true))
+      → IsSettledAlikeAssuming p q a m target k l
   by_answers : (k l : Known Tri Outcome) (joint : JointInstances) → CanAnswerAlike m p q joint
-      → IsSettledAlike p q m target (answering_in k joint.old AnswersOff) (answering_in l joint.new AnswersOff)
-      → IsSettledAlike p q m target (answering_in k joint.old AnswersOn) (answering_in l joint.new AnswersOn)
-      → IsSettledAlike p q m target (answering_in k joint.old Input) (answering_in l joint.new Input) → IsSettledAlike p q m target k l
+      → IsSettledAlikeAssuming p q a m target (answering_in k joint.old AnswersOff) (answering_in l joint.new AnswersOff)
+      → IsSettledAlikeAssuming p q a m target (answering_in k joint.old AnswersOn) (answering_in l joint.new AnswersOn)
+      → IsSettledAlikeAssuming p q a m target (answering_in k joint.old Input) (answering_in l joint.new Input)
+      → IsSettledAlikeAssuming p q a m target k l

@@ -1,11 +1,12 @@
 //! Settling by cases, side by side, that one scan of each program leaves the target alike.
 
 ghost use Rattle.std.specs.Prelude.{◌≡◌, ◌≤◌, ◌<◌, IsTrue, false};
+ghost use Rattle.diff_cases.specs.Assuming.{assumed_of_both};
 ghost use Rattle.diff_cases.specs.Buffers.{AreAlikeBuffers, KeepAlikeBuffers};
-ghost use Rattle.diff_cases.specs.Cases.{BelongTogether, CanAnswerAlike, IsSettledAlike, IsToldAlike, MayBeCases, answering_in, pinned_in};
+ghost use Rattle.diff_cases.specs.Cases.{BelongTogether, CanAnswerAlike, IsSettledAlikeAssuming, IsToldAlike, MayBeCases, answering_in, pinned_in};
 
 use crate::buffers::AlikeBuffers;
-use crate::choosing::next_joint;
+use crate::choosing::joint_after;
 use crate::joint::{Joint, JointInstances, JointPoint};
 use crate::looking::{AlikeQuestion, Likeness, look};
 use crate::pinning::{answer_in, pin_answer_in, pin_in, told_in};
@@ -19,13 +20,25 @@ pub struct Search {
     pub looks: u32,
 }
 
-/// Whether the target is settled to be left alike from what is known in the case, by at most so many looks, each a scan of each program, with
-/// further cases. Both cases are the same afterwards. Whether instances can be compared isn't asked here: `are_of_one_kind` tells it.
+/// It is settled, and so many looks are left.
+fn settled(looks: u32) -> Search
+    ensures settled { IsTrue result.is_settled }
+    ensures looks { result.looks ≡ looks }
+{
+    Search {
+        is_settled: true,
+        looks,
+    }
+}
+
+/// Whether the target is settled to be left alike from what is known in the case, where what is assumed of the inputs is true, by at most so many
+/// looks, each a scan of each program, with further cases. Both cases are the same afterwards. Whether instances can be compared isn't asked here:
+/// `are_of_one_kind` tells it.
 #[cycle(settling)]
 pub fn settle(question: AlikeQuestion<'_>, buffers: &mut AlikeBuffers, looks: u32) -> Search
     requires { AreAlikeBuffers question.old.now question.new.now buffers.old }
     ensures settled { IsTrue result.is_settled
-        → IsSettledAlike question.entry.old.now question.entry.new.now question.entry.matching.now question.entry.target buffers.old.of_old.case buffers.old.of_new.case }
+        → IsSettledAlikeAssuming question.entry.old.now question.entry.new.now (assumed_of_both question.entry.assumed) question.entry.matching.now question.entry.target buffers.old.of_old.case buffers.old.of_new.case }
     ensures at_once { 0 < looks → IsToldAlike question.entry.old.now question.entry.new.now question.entry.target buffers.old.of_old.case buffers.old.of_new.case
         → IsTrue result.is_settled }
     ensures looks { result.looks ≤ looks }
@@ -39,16 +52,15 @@ pub fn settle(question: AlikeQuestion<'_>, buffers: &mut AlikeBuffers, looks: u3
         };
     }
     let left = looks - 1;
-    match look(question, buffers) {
-        Likeness::Alike => Search {
-            is_settled: true,
-            looks: left,
-        },
-        Likeness::Different => Search {
-            is_settled: false,
-            looks: left,
-        },
-        Likeness::Open => match next_joint(question, buffers) {
+    let assumed = question.assumed;
+    // No states count that are in the case.
+    if assumed.is_one_false(&buffers.of_old.case, &buffers.of_new.case) {
+        return settled(left);
+    }
+    let likeness = look(question, buffers);
+    match likeness {
+        Likeness::Alike => settled(left),
+        Likeness::Different | Likeness::Open => match joint_after(question, likeness, buffers) {
             Some(joint) => split(question, joint, buffers, left),
             None => Search {
                 is_settled: false,
@@ -69,7 +81,7 @@ fn split(
     requires buffers { AreAlikeBuffers question.old.now question.new.now buffers.old }
     requires joint { MayBeCases question.matching.now question.old.now question.new.now joint }
     ensures settled { IsTrue result.is_settled
-        → IsSettledAlike question.entry.old.now question.entry.new.now question.entry.matching.now question.entry.target buffers.old.of_old.case buffers.old.of_new.case }
+        → IsSettledAlikeAssuming question.entry.old.now question.entry.new.now (assumed_of_both question.entry.assumed) question.entry.matching.now question.entry.target buffers.old.of_old.case buffers.old.of_new.case }
     ensures looks { result.looks ≤ looks }
     ensures buffers { KeepAlikeBuffers question.entry.old.now question.entry.new.now buffers.old buffers.new }
 {
@@ -90,7 +102,7 @@ fn by_values(
     requires buffers { AreAlikeBuffers question.old.now question.new.now buffers.old }
     requires joint { BelongTogether question.matching.now joint }
     ensures settled { IsTrue result.is_settled
-        → IsSettledAlike question.entry.old.now question.entry.new.now question.entry.matching.now question.entry.target buffers.old.of_old.case buffers.old.of_new.case }
+        → IsSettledAlikeAssuming question.entry.old.now question.entry.new.now (assumed_of_both question.entry.assumed) question.entry.matching.now question.entry.target buffers.old.of_old.case buffers.old.of_new.case }
     ensures looks { result.looks ≤ looks }
     ensures buffers { KeepAlikeBuffers question.entry.old.now question.entry.new.now buffers.old buffers.new }
 {
@@ -112,7 +124,7 @@ fn with_value(
 ) -> Search
     requires { AreAlikeBuffers question.old.now question.new.now buffers.old }
     ensures settled { IsTrue result.is_settled
-        → IsSettledAlike question.entry.old.now question.entry.new.now question.entry.matching.now question.entry.target
+        → IsSettledAlikeAssuming question.entry.old.now question.entry.new.now (assumed_of_both question.entry.assumed) question.entry.matching.now question.entry.target
         (pinned_in buffers.old.of_old.case joint.old value) (pinned_in buffers.old.of_new.case joint.new value) }
     ensures looks { result.looks ≤ looks }
     ensures buffers { KeepAlikeBuffers question.entry.old.now question.entry.new.now buffers.old buffers.new }
@@ -138,7 +150,7 @@ fn by_answers(
     requires buffers { AreAlikeBuffers question.old.now question.new.now buffers.old }
     requires joint { CanAnswerAlike question.matching.now question.old.now question.new.now joint }
     ensures settled { IsTrue result.is_settled
-        → IsSettledAlike question.entry.old.now question.entry.new.now question.entry.matching.now question.entry.target buffers.old.of_old.case buffers.old.of_new.case }
+        → IsSettledAlikeAssuming question.entry.old.now question.entry.new.now (assumed_of_both question.entry.assumed) question.entry.matching.now question.entry.target buffers.old.of_old.case buffers.old.of_new.case }
     ensures looks { result.looks ≤ looks }
     ensures buffers { KeepAlikeBuffers question.entry.old.now question.entry.new.now buffers.old buffers.new }
 {
@@ -164,7 +176,7 @@ fn with_answer(
 ) -> Search
     requires { AreAlikeBuffers question.old.now question.new.now buffers.old }
     ensures settled { IsTrue result.is_settled
-        → IsSettledAlike question.entry.old.now question.entry.new.now question.entry.matching.now question.entry.target
+        → IsSettledAlikeAssuming question.entry.old.now question.entry.new.now (assumed_of_both question.entry.assumed) question.entry.matching.now question.entry.target
         (answering_in buffers.old.of_old.case joint.old answer) (answering_in buffers.old.of_new.case joint.new answer) }
     ensures looks { result.looks ≤ looks }
     ensures buffers { KeepAlikeBuffers question.entry.old.now question.entry.new.now buffers.old buffers.new }

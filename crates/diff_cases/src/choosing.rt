@@ -7,7 +7,7 @@ ghost use Rattle.diff_cases.specs.Cases.{MayBeCases};
 
 use crate::buffers::AlikeBuffers;
 use crate::joint::Joint;
-use crate::looking::{AlikeQuestion, scan_case};
+use crate::looking::{AlikeQuestion, Likeness, scan_case};
 use crate::owners::{Owner, find_owner, first_written, is_written_before, read_by};
 use crate::partners::{Chosen, Side, number_of};
 use crate::pinning::{answer_in, pin_answer_in};
@@ -227,4 +227,35 @@ pub fn next_joint(question: AlikeQuestion<'_>, buffers: &mut AlikeBuffers) -> Op
         return None;
     };
     Some(buffers.partners.joint(question, chosen))
+}
+
+/// The same of an input that leaves it open whether what is assumed is true.
+pub fn assumed_joint(question: AlikeQuestion<'_>, buffers: &AlikeBuffers) -> Option<Joint>
+    ensures { IfSome result (MayBeCases question.entry.matching.now question.entry.old.now question.entry.new.now) }
+{
+    let assumed = question.assumed;
+    match assumed.open_input(&buffers.of_old.case, &buffers.of_new.case) {
+        Some(chosen) => Some(buffers.partners.joint(question, chosen)),
+        None => None,
+    }
+}
+
+/// What the next cases are made of, after this look: of what leaves the target open, or else of what leaves it open whether what is assumed is true.
+pub(crate) fn joint_after(
+    question: AlikeQuestion<'_>,
+    likeness: Likeness,
+    buffers: &mut AlikeBuffers,
+) -> Option<Joint>
+    requires { AreAlikeBuffers question.old.now question.new.now buffers.old }
+    ensures joint { IfSome result (MayBeCases question.entry.matching.now question.entry.old.now question.entry.new.now) }
+    ensures buffers { KeepAlikeBuffers question.entry.old.now question.entry.new.now buffers.old buffers.new }
+{
+    let open = match likeness {
+        Likeness::Open => next_joint(question, buffers),
+        Likeness::Alike | Likeness::Different => None,
+    };
+    match open {
+        Some(joint) => Some(joint),
+        None => assumed_joint(question, &*buffers),
+    }
 }

@@ -3,6 +3,7 @@
 //! The modules `choosing` and `pinning` are public for the search for a difference, which splits the same cases.
 #![tactic(auto)]
 
+mod assumptions;
 pub mod buffers;
 pub mod cases;
 pub mod choosing;
@@ -16,6 +17,7 @@ mod target;
 mod trace;
 mod tracing;
 
+pub use assumptions::Assumptions;
 pub use buffers::AlikeBuffers;
 pub use cases::Search;
 pub use joint::{Joint, JointInstances, JointPoint};

@@ -8,6 +8,7 @@ ghost use Rattle.diff_cases.specs.Cases.{AreContentsAlike, AreKnownAlike, AreTra
 ghost use Rattle.diff_cases.specs.Traces.{trace_of, traced_after};
 ghost use Rattle.diff_cases.specs.declared.looking.Likeness.TheVariants.{Alike};
 
+use crate::assumptions::Assumptions;
 use crate::buffers::AlikeBuffers;
 use crate::target::Target;
 use crate::trace::Trace;
@@ -21,7 +22,7 @@ use scan_cycle::scene::instance;
 use scan_partial::scan_known;
 use scan_signals::Tri;
 
-/// What is asked of one scan of each program: whether it leaves the target alike.
+/// What is asked of one scan of each program: whether it leaves the target alike, where what is assumed of the inputs is true.
 #[derive(Clone, Copy)]
 pub struct AlikeQuestion<'a> {
     pub old: &'a Program,
@@ -31,6 +32,8 @@ pub struct AlikeQuestion<'a> {
     /// Where the new program writes what.
     pub new_writers: &'a Writers,
     pub matching: &'a Matching,
+    /// What is assumed of the inputs of each.
+    pub assumed: Assumptions<'a>,
     pub target: Target,
 }
 

@@ -8,6 +8,8 @@ use Rattle.diagram_program.specs.Program.{Drawing}
 use Rattle.scan_cycle.specs.Standing.{fresh}
 use Rattle.diff_matching.specs.Matching.{Agree, AgreeOnInputs, Matching}
 use Rattle.diff_matching.specs.Runs.{AgreeAfterEach, AreRuns, TwoScans}
+use Rattle.diff_cases.specs.Assuming.{BothAssumed}
+use Rattle.diff_meaning.specs.Laws.{AreAsAssumed}
 use Rattle.diff_meaning.specs.Verdicts.{AreAllSame}
 use Rattle.diff_meaning.specs.declared.verdict.Verdicts.{Verdicts}
 use Rattle.diff_findings.specs.Findings.{findings}
@@ -25,6 +27,11 @@ BeginAlike m p q = Agree m (fresh p).held (fresh q).held × AgreeOnInputs m (fre
 -- Whatever inputs come, at whatever moments: after each scan of a run from the fresh states what belongs together is the same.
 abbrev pub AgreeInAllRuns : Matching → Drawing → Drawing → Type 0
 AgreeInAllRuns m p q = (scans : List TwoScans) → AreRuns m p q scans (fresh p) (fresh q) → AgreeAfterEach m p q scans (fresh p) (fresh q)
+
+-- The same of the runs in each scan of which what is assumed of the inputs is true.
+abbrev pub AgreeInRunsAssuming : BothAssumed → Matching → Drawing → Drawing → Type 0
+AgreeInRunsAssuming a m p q = (scans : List TwoScans) → AreRuns m p q scans (fresh p) (fresh q) → AreAsAssumed a p q scans
+    → AgreeAfterEach m p q scans (fresh p) (fresh q)
 
 -- ---- terminals
 
@@ -57,3 +64,9 @@ is_about_terminals p q f = tells_terminal p q f.subject f.remark
 abbrev pub IsSaidOfRuns : Matching → Drawing → Drawing → Verdicts → Bool → Type 0
 IsSaidOfRuns m p q v true = AreAllSame v × BeginAlike m p q × (list_any (is_about_terminals p q) (findings p q m v) ≡ false) × AgreeInAllRuns m p q
 IsSaidOfRuns m p q v false = AreAllSame v → BeginAlike m p q → list_any (is_about_terminals p q) (findings p q m v) ≡ false → ⊥
+
+-- The same where something is assumed of the inputs.
+abbrev pub IsSaidOfRunsAssuming : BothAssumed → Matching → Drawing → Drawing → Verdicts → Bool → Type 0
+IsSaidOfRunsAssuming a m p q v true = AreAllSame v × BeginAlike m p q × (list_any (is_about_terminals p q) (findings p q m v) ≡ false)
+    × AgreeInRunsAssuming a m p q
+IsSaidOfRunsAssuming a m p q v false = AreAllSame v → BeginAlike m p q → list_any (is_about_terminals p q) (findings p q m v) ≡ false → ⊥

@@ -5,9 +5,10 @@ ghost use Rattle.std.specs.List.{list_any};
 ghost use Rattle.scan_cycle.specs.Standing.{fresh};
 ghost use Rattle.diff_matching.specs.Matching.{Agree, AgreeOnInputs};
 ghost use Rattle.diff_matching.specs.Runs.{HaveNoInput};
+ghost use Rattle.diff_cases.specs.Assuming.{assumed_of_both};
 ghost use Rattle.diff_meaning.specs.Counting.{StayFromFresh};
 ghost use Rattle.diff_meaning.specs.Verdicts.{AreTrue};
-ghost use Rattle.diff_findings.specs.Equivalence.{BeginAlike, IsSaidOfRuns, is_about_terminals, is_output_alone, is_output_of};
+ghost use Rattle.diff_findings.specs.Equivalence.{BeginAlike, IsSaidOfRunsAssuming, is_about_terminals, is_output_alone, is_output_of};
 ghost use Rattle.diff_findings.specs.Findings.{findings};
 
 use crate::finding::{Finding, Remark, Sort, Subject};
@@ -16,7 +17,7 @@ use diagram_declarations::VarKind;
 use diagram_program::Program;
 use diff_matching::{Matching, agree};
 use diff_meaning::are_all_same;
-use diff_meaning::laws::fresh_runs_agree;
+use diff_meaning::laws::fresh_runs_agree_assuming;
 use scan_cycle::{Memory, State};
 use std::alloc::Global;
 
@@ -100,7 +101,7 @@ fn tells_terminals(compared: Compared<'_>, list: &[Finding]) -> bool
 }
 
 /// Whether all that belongs together in two programs is left alike and begins alike, and the outputs are the same ones at the same addresses,
-/// by what is found of them. Then no run from the fresh states tells the programs apart.
+/// by what is found of them. Then no run from the fresh states tells the programs apart in which what is assumed of the inputs is true.
 ///
 /// # Errors
 ///
@@ -114,9 +115,10 @@ pub fn are_equivalent(
     requires stays { StayFromFresh compared.counted.now compared.old.now compared.new.now }
     requires no_input { HaveNoInput compared.matching.now compared.old.now compared.new.now }
     requires list { list.now ≡ findings compared.old.now compared.new.now compared.matching.now compared.verdicts.now }
-    ensures { IfOk result (IsSaidOfRuns compared.entry.matching.now compared.entry.old.now compared.entry.new.now compared.entry.verdicts.now) }
+    ensures { IfOk result (IsSaidOfRunsAssuming (assumed_of_both compared.entry.counted.now.assumed) compared.entry.matching.now compared.entry.old.now compared.entry.new.now
+        compared.entry.verdicts.now) }
 {
-    fresh_runs_agree(compared.old, compared.new);
+    fresh_runs_agree_assuming(compared.old, compared.new);
     if !are_all_same(compared.verdicts) || tells_terminals(compared, list) {
         return Ok(false);
     }

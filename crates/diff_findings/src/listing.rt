@@ -17,7 +17,7 @@ pub struct Compared<'a> {
     pub old: &'a Program,
     pub new: &'a Program,
     pub matching: &'a Matching,
-    pub counted: &'a Counted,
+    pub counted: &'a Counted<'a>,
     pub verdicts: &'a Verdicts,
 }
 

@@ -1,9 +1,11 @@
 -- What follows where one scan of each program leaves all that belongs together alike.
-use Rattle.std.specs.Prelude.{ℕ, List}
+use Rattle.std.specs.Prelude.{◌≡◌, ℕ, List, map}
 use Rattle.diagram_program.specs.Program.{Drawing}
 use Rattle.scan_cycle.specs.Standing.{Standing, fresh}
+use Rattle.invariant_sets.specs.Invariants.{AreAllowed}
 use Rattle.diff_matching.specs.Matching.{Agree, AreShared, Matching, scanned}
-use Rattle.diff_matching.specs.Runs.{AgreeAfterEach, AreRuns, HaveNoInput, TwoScans}
+use Rattle.diff_matching.specs.Runs.{AgreeAfterEach, AreRuns, HaveNoInput, TwoScans, new_scan, old_scan}
+use Rattle.diff_cases.specs.Assuming.{BothAssumed, assumed_of_both, nothing_of_both}
 use Rattle.diff_meaning.specs.Counting.{Count, StayFromFresh}
 use Rattle.diff_meaning.specs.Verdicts.{AreAllSame, AreTrue}
 use Rattle.diff_meaning.specs.declared.counted.Counted.{Counted}
@@ -18,8 +20,20 @@ AreEquivalentWhere c m p q = (moment : ℕ) (s t : Standing) → AreShared m p q
 abbrev pub EquivalentWhereSame : Drawing → Drawing → Type 0
 EquivalentWhereSame p q = (c : Counted) (m : Matching) (verdicts : Verdicts) → AreTrue c m p q verdicts → AreAllSame verdicts → AreEquivalentWhere c m p q
 
--- Where the fresh states agree, and what makes a state count stays so from them on, the programs agree after each scan of any runs from there.
-abbrev pub FreshRunsAgree : Drawing → Drawing → Type 0
-FreshRunsAgree p q = (c : Counted) (m : Matching) (verdicts : Verdicts) → StayFromFresh c p q → AreTrue c m p q verdicts → AreAllSame verdicts
+-- In each scan of a run of each program, from the fresh states on, what is assumed is true of the inputs as they are given.
+pub record AreAsAssumed (a : BothAssumed) (p q : Drawing) (scans : List TwoScans) : Type 0 where
+  pub of_old : AreAllowed p a.of_old (map old_scan scans) (fresh p).held
+  pub of_new : AreAllowed q a.of_new (map new_scan scans) (fresh q).held
+
+-- Where the fresh states agree, and what makes a state count stays so from them on, the programs agree after each scan of any runs from there in
+-- which what is assumed is true.
+abbrev pub FreshRunsAgreeAssuming : Drawing → Drawing → Type 0
+FreshRunsAgreeAssuming p q = (c : Counted) (m : Matching) (verdicts : Verdicts) → StayFromFresh c p q → AreTrue c m p q verdicts → AreAllSame verdicts
     → HaveNoInput m p q → Agree m (fresh p).held (fresh q).held → (scans : List TwoScans) → AreRuns m p q scans (fresh p) (fresh q)
-    → AgreeAfterEach m p q scans (fresh p) (fresh q)
+    → AreAsAssumed (assumed_of_both c.assumed) p q scans → AgreeAfterEach m p q scans (fresh p) (fresh q)
+
+-- Where nothing is assumed, after each scan of any runs.
+abbrev pub FreshRunsAgree : Drawing → Drawing → Type 0
+FreshRunsAgree p q = (c : Counted) (m : Matching) (verdicts : Verdicts) → assumed_of_both c.assumed ≡ nothing_of_both → StayFromFresh c p q
+    → AreTrue c m p q verdicts → AreAllSame verdicts → HaveNoInput m p q → Agree m (fresh p).held (fresh q).held
+    → (scans : List TwoScans) → AreRuns m p q scans (fresh p) (fresh q) → AgreeAfterEach m p q scans (fresh p) (fresh q)

@@ -1,9 +1,9 @@
 //! Laws over the definitions: each function does nothing, and its contract is the law.
 
-ghost use Rattle.diff_meaning.specs.Laws.{EquivalentWhereSame, FreshRunsAgree};
+ghost use Rattle.diff_meaning.specs.Laws.{EquivalentWhereSame, FreshRunsAgree, FreshRunsAgreeAssuming};
 
 use diagram_program::Program;
-use invariant_sets::laws::stays_so;
+use invariant_sets::laws::stays_assuming;
 use scan_cycle::scene::checked;
 
 /// Where all that belongs together in two programs is left alike, they are equivalent.
@@ -15,12 +15,19 @@ pub fn equivalent_where_same(old: &Program, new: &Program)
 }
 
 /// The same, from the fresh states on: where those agree, and what makes a state count stays so from them on, the programs agree after each scan
-/// of any runs.
-pub fn fresh_runs_agree(old: &Program, new: &Program)
-    ensures { FreshRunsAgree old.now new.now }
+/// of any runs in which what is assumed of the inputs is true.
+pub fn fresh_runs_agree_assuming(old: &Program, new: &Program)
+    ensures { FreshRunsAgreeAssuming old.now new.now }
 {
     checked(old);
     checked(new);
-    stays_so(old);
-    stays_so(new);
+    stays_assuming(old);
+    stays_assuming(new);
+}
+
+/// The same where nothing is assumed: after each scan of any runs.
+pub fn fresh_runs_agree(old: &Program, new: &Program)
+    ensures { FreshRunsAgree old.now new.now }
+{
+    fresh_runs_agree_assuming(old, new);
 }

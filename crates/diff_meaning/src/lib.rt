@@ -6,6 +6,6 @@ pub mod laws;
 mod verdict;
 mod witness;
 
-pub use counted::Counted;
+pub use counted::{Counted, CountedStates};
 pub use verdict::{MOMENT, PairSort, Verdict, Verdicts, are_all_same};
 pub use witness::Witness;

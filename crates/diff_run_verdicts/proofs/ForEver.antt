@@ -14,7 +14,7 @@ use Rattle.scan_cycle.specs.Standing.{Standing, fresh}
 use Rattle.diff_matching.specs.declared.matching.Pair.{Pair}
 use Rattle.diff_matching.specs.Matching.{Agree, AgreeOnInputs, Matching}
 use Rattle.diff_matching.specs.Runs.{AgreeAfterEach, AreRuns, TwoScans, new_scan, next, old_scan, with_inputs}
-use Rattle.diff_runs.specs.Showing.{BelongTogether, NeverShown, is_on, left_by}
+use Rattle.diff_runs.specs.Showing.{AreAlikeAfter, BelongTogether, is_on, left_by}
 use Rattle.diff_runs.specs.declared.symbols.TwoSymbols.{TwoSymbols}
 use Rattle.diff_run_verdicts.specs.Lasting.{IsOneOf, StayAlike}
 
@@ -61,7 +61,8 @@ symbols_agree a (symbol.Instance i) (symbol.Instance j) pair h g agree =
 symbols_agree a (symbol.Var i) (symbol.Instance j) pair h g agree = absurd pair
 symbols_agree a (symbol.Instance i) (symbol.Var j) pair h g agree = absurd pair
 
-pub never_shown : (a m : Matching) (p q : Drawing) → StayAlike a m p q → (x : TwoSymbols) → BelongTogether a x.old x.new → NeverShown m p q x
+pub never_shown : (a m : Matching) (p q : Drawing) → StayAlike a m p q → (x : TwoSymbols) → BelongTogether a x.old x.new
+    → (scans : List TwoScans) → 0 < length scans → AreRuns m p q scans (fresh p) (fresh q) → AreAlikeAfter p q x scans
 never_shown a m p q alike x pair scans some runs =
     symbols_agree a x.old x.new pair (left_by p (map old_scan scans)) (left_by q (map new_scan scans))
     (last_agree a p q scans (fresh p) (fresh q) (alike.agree scans (same_runs a m p q alike.inputs scans (fresh p) (fresh q) runs)) some)

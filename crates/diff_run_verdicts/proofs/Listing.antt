@@ -6,11 +6,12 @@ use Rattle.diagram_program.specs.Program.{Drawing}
 use Rattle.diff_matching.specs.declared.matching.Pair.{Pair}
 use Rattle.diff_matching.specs.Matching.{Matching}
 use Rattle.diff_meaning.specs.declared.verdict.Verdict.{Verdict}
+use Rattle.diff_runs.specs.Assuming.{Assumptions}
 use Rattle.diff_runs.specs.declared.symbols.TwoSymbols.{TwoSymbols}
-use Rattle.diff_search.specs.Differences.{IsTrueInRuns}
+use Rattle.diff_search.specs.Differences.{IsTrueInRunsAssuming}
 use Rattle.diff_search.specs.declared.difference.RunDifference.{RunDifference}
 use Rattle.diff_search.specs.declared.difference.RunDifference.TheVariants.{Never, Open, Shown}
-use Rattle.diff_run_verdicts.specs.RunVerdicts.{AreOfPairs, IsTrueOfRuns, pairs_of, symbols_of}
+use Rattle.diff_run_verdicts.specs.RunVerdicts.{AreOfPairs, IsTrueOfRunsAssuming, pairs_of, symbols_of}
 use Rattle.diff_run_verdicts.specs.Telling.{verdict_of}
 use Rattle.diff_run_verdicts.specs.declared.names.NameSort.{NameSort}
 
@@ -70,13 +71,14 @@ so_of_others {T} {U} Is Are f m sort list makes are = record {
 }
 
 -- The verdict by what is true is true.
-told : (m : Matching) (p q : Drawing) (x : TwoSymbols) (found : RunDifference) → IsTrueInRuns m p q x found → IsTrueOfRuns m p q x (verdict_of found)
-told m p q x (Shown runs) is = (refl, (is.scans, is.shows))
-told m p q x Never is = is
-told m p q x (Open scans) is = tt
+told : (a : Assumptions) (m : Matching) (p q : Drawing) (x : TwoSymbols) (found : RunDifference)
+    → IsTrueInRunsAssuming a m p q x found → IsTrueOfRunsAssuming a m p q x (verdict_of found)
+told a m p q x (Shown runs) is = (refl, (is.scans, is.shows))
+told a m p q x Never is = is
+told a m p q x (Open scans) is = tt
 
-pub all_told : (m : Matching) (p q : Drawing) (sort : NameSort) (found : List RunDifference) (verdicts : List Verdict) → verdicts ≡ map verdict_of found
-    → AreOfPairs (IsTrueInRuns m p q) m sort found → AreOfPairs (IsTrueOfRuns m p q) m sort verdicts
-all_told m p q sort found verdicts made are =
-    subst (λ (vs : List Verdict). AreOfPairs (IsTrueOfRuns m p q) m sort vs) (sym made)
-    (so_of_others (IsTrueInRuns m p q) (IsTrueOfRuns m p q) verdict_of m sort found (told m p q) are)
+pub all_told : (a : Assumptions) (m : Matching) (p q : Drawing) (sort : NameSort) (found : List RunDifference) (verdicts : List Verdict) → verdicts ≡ map verdict_of found
+    → AreOfPairs (IsTrueInRunsAssuming a m p q) m sort found → AreOfPairs (IsTrueOfRunsAssuming a m p q) m sort verdicts
+all_told a m p q sort found verdicts made are =
+    subst (λ (vs : List Verdict). AreOfPairs (IsTrueOfRunsAssuming a m p q) m sort vs) (sym made)
+    (so_of_others (IsTrueInRunsAssuming a m p q) (IsTrueOfRunsAssuming a m p q) verdict_of m sort found (told a m p q) are)

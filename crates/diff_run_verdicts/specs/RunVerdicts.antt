@@ -8,9 +8,10 @@ use Rattle.diff_matching.specs.Runs.{TwoScans}
 use Rattle.diff_meaning.specs.declared.verdict.Verdict.{Verdict}
 use Rattle.diff_meaning.specs.declared.verdict.Verdict.TheVariants.{Same, Differs, Unsettled}
 use Rattle.diff_meaning.specs.declared.verdict.Verdicts.{Verdicts}
-use Rattle.diff_runs.specs.Showing.{NeverShown, ShowsInRun}
+use Rattle.diff_runs.specs.Assuming.{Assumptions, nothing}
+use Rattle.diff_runs.specs.Showing.{NeverShownAssuming, ShowsInRunAssuming}
 use Rattle.diff_runs.specs.declared.symbols.TwoSymbols.{TwoSymbols}
-use Rattle.diff_search.specs.Differences.{IsTrueInRuns}
+use Rattle.diff_search.specs.Differences.{IsTrueInRunsAssuming}
 use Rattle.diff_run_verdicts.specs.declared.findings.RunFindings.{RunFindings}
 use Rattle.diff_run_verdicts.specs.declared.names.NameSort.{NameSort}
 use Rattle.diff_run_verdicts.specs.declared.names.NameSort.TheVariants.{Variables, Instances}
@@ -31,26 +32,35 @@ pub record AreOfPairs {T : Type 0} (Is : TwoSymbols → T → Type 0) (m : Match
 
 -- ---- verdicts
 
--- Some runs show that the symbols differ: after the last of their scans the one of OLD has this value, and the one of NEW the other.
-abbrev pub SomeRunsShow : Matching → Drawing → Drawing → TwoSymbols → Bool → Type 0
-SomeRunsShow m p q x value = (scans : List TwoScans) × ShowsInRun m p q x value scans
+-- Some runs, in each scan of which what is assumed is true, show that the symbols differ: after the last of their scans the one of OLD has this
+-- value, and the one of NEW the other.
+abbrev pub SomeRunsShow : Assumptions → Matching → Drawing → Drawing → TwoSymbols → Bool → Type 0
+SomeRunsShow a m p q x value = (scans : List TwoScans) × ShowsInRunAssuming a m p q x value scans
 
--- The verdict is true of two symbols in runs: no runs ever show a difference, or some do, with these values. Where it isn't settled nothing is
+-- The verdict is true of two symbols in such runs: none ever show a difference, or some do, with these values. Where it isn't settled nothing is
 -- said.
-abbrev pub IsTrueOfRuns : Matching → Drawing → Drawing → TwoSymbols → Verdict → Type 0
-IsTrueOfRuns m p q x Same = NeverShown m p q x
-IsTrueOfRuns m p q x (Differs a b) = (b ≡ not a) × SomeRunsShow m p q x a
-IsTrueOfRuns m p q x Unsettled = Unit {0}
+abbrev pub IsTrueOfRunsAssuming : Assumptions → Matching → Drawing → Drawing → TwoSymbols → Verdict → Type 0
+IsTrueOfRunsAssuming a m p q x Same = NeverShownAssuming a m p q x
+IsTrueOfRunsAssuming a m p q x (Differs old new) = (new ≡ not old) × SomeRunsShow a m p q x old
+IsTrueOfRunsAssuming a m p q x Unsettled = Unit {0}
 
 -- The verdicts are true of all names. Edges have none: of each of them it is told that it is the same, for which no row stands.
-pub record AreTrueOfRuns (m : Matching) (p q : Drawing) (verdicts : Verdicts) : Type 0 where
-  pub variables : AreOfPairs (IsTrueOfRuns m p q) m Variables verdicts.variables.items
-  pub instances : AreOfPairs (IsTrueOfRuns m p q) m Instances verdicts.instances.items
+pub record AreTrueOfRunsAssuming (a : Assumptions) (m : Matching) (p q : Drawing) (verdicts : Verdicts) : Type 0 where
+  pub variables : AreOfPairs (IsTrueOfRunsAssuming a m p q) m Variables verdicts.variables.items
+  pub instances : AreOfPairs (IsTrueOfRunsAssuming a m p q) m Instances verdicts.instances.items
   pub memories : verdicts.memories.items ≡ map (λ x. Same) m.memories
+
+-- where nothing is assumed
+abbrev pub AreTrueOfRuns : Matching → Drawing → Drawing → Verdicts → Type 0
+AreTrueOfRuns = AreTrueOfRunsAssuming nothing
 
 -- ---- what searches find
 
 -- What was found of all names is true.
-pub record AreFound (m : Matching) (p q : Drawing) (findings : RunFindings) : Type 0 where
-  pub variables : AreOfPairs (IsTrueInRuns m p q) m Variables findings.variables.items
-  pub instances : AreOfPairs (IsTrueInRuns m p q) m Instances findings.instances.items
+pub record AreFoundAssuming (a : Assumptions) (m : Matching) (p q : Drawing) (findings : RunFindings) : Type 0 where
+  pub variables : AreOfPairs (IsTrueInRunsAssuming a m p q) m Variables findings.variables.items
+  pub instances : AreOfPairs (IsTrueInRunsAssuming a m p q) m Instances findings.instances.items
+
+-- where nothing is assumed
+abbrev pub AreFound : Matching → Drawing → Drawing → RunFindings → Type 0
+AreFound = AreFoundAssuming nothing

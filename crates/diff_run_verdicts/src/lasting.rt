@@ -9,7 +9,7 @@ ghost use Rattle.diff_run_verdicts.specs.Lasting.{IsOneOf, StayAlike};
 use diagram_program::Program;
 use diff_beside::{is_part, is_suited};
 use diff_matching::{Matching, Pair};
-use diff_meaning::{Counted, Verdict, Verdicts};
+use diff_meaning::{Counted, CountedStates, Verdict, Verdicts};
 use diff_verdicts::{Judge, Judgement, judge_all};
 use scan_cycle::Memory;
 use std::alloc::{AllocError, Global};
@@ -106,7 +106,7 @@ fn judgement_of(
     old: &Program,
     new: &Program,
     candidate: &Matching,
-    counted: &Counted,
+    counted: &Counted<'_>,
 ) -> Result<Judgement, Memory>
     requires suited { IsSuited candidate.now old.now new.now }
     requires counted { AreOfPrograms counted.now old.now new.now }
@@ -126,7 +126,7 @@ fn judged(
 ) -> Result<Verdicts, Memory>
     requires { IsSuited candidate.now old.now new.now }
 {
-    let counted = Counted::All;
+    let counted = Counted::of(CountedStates::All);
     let judged = judgement_of(alloc, old, new, candidate, &counted);
     drop(counted);
     match judged {

@@ -1,10 +1,11 @@
 //! The searches for runs that show differences, once it is known that two programs stand side by side in one.
 
 ghost use Rattle.std.specs.Prelude.{◌≡◌, [], IfOk, OnOk, option_map};
+ghost use Rattle.diff_runs.specs.Assuming.{assumptions};
 ghost use Rattle.diff_runs.specs.Beside.{StandBeside};
-ghost use Rattle.diff_search.specs.Differences.{IsPrepared, IsTrueInRuns};
+ghost use Rattle.diff_search.specs.Differences.{IsPrepared, IsTrueInRunsAssuming};
 ghost use Rattle.diff_run_verdicts.specs.Lasting.{StayAlikeIn};
-ghost use Rattle.diff_run_verdicts.specs.RunVerdicts.{AreFound, AreOfPairs};
+ghost use Rattle.diff_run_verdicts.specs.RunVerdicts.{AreFoundAssuming, AreOfPairs};
 
 use crate::findings::{KnownAlike, RunFindings, nothing_known, stay_alike};
 use crate::names::{NameSort, pairs_of, symbols_of};
@@ -56,7 +57,7 @@ fn find_one(
     requires beside { StandBeside seeking.sides }
     requires prepared { IsPrepared seeking.sides seeking.prepared.now }
     requires alike { StayAlikeIn seeking.sides.matching.now seeking.sides.old.now seeking.sides.new.now (option_map (λ m. m.now) seeking.alike) }
-    ensures { IfOk result (IsTrueInRuns seeking.entry.sides.matching.now seeking.entry.sides.old.now seeking.entry.sides.new.now symbols) }
+    ensures { IfOk result (IsTrueInRunsAssuming (assumptions seeking.entry.sides.assumed) seeking.entry.sides.matching.now seeking.entry.sides.old.now seeking.entry.sides.new.now symbols) }
 {
     let sides = seeking.sides;
     if !has_row(sides, symbols) {
@@ -66,6 +67,7 @@ fn find_one(
         old: sides.old,
         new: sides.new,
         matching: sides.matching,
+        assumed: sides.assumed,
         alike: seeking.alike,
     };
     if stay_alike(known, symbols) {
@@ -99,7 +101,7 @@ fn find_sort(
     requires prepared { IsPrepared seeking.sides seeking.prepared.now }
     requires alike { StayAlikeIn seeking.sides.matching.now seeking.sides.old.now seeking.sides.new.now (option_map (λ m. m.now) seeking.alike) }
     requires none { list.old.items ≡ [] }
-    ensures { OnOk result (AreOfPairs (IsTrueInRuns seeking.entry.sides.matching.now seeking.entry.sides.old.now seeking.entry.sides.new.now)
+    ensures { OnOk result (AreOfPairs (IsTrueInRunsAssuming (assumptions seeking.entry.sides.assumed) seeking.entry.sides.matching.now seeking.entry.sides.old.now seeking.entry.sides.new.now)
         seeking.entry.sides.matching.now sort list.new.items) }
 {
     let pairs = pairs_of(sort, seeking.sides.matching);
@@ -117,7 +119,7 @@ fn find_sorts(alloc: Global, seeking: Seeking<'_>, findings: &mut RunFindings) -
     requires alike { StayAlikeIn seeking.sides.matching.now seeking.sides.old.now seeking.sides.new.now (option_map (λ m. m.now) seeking.alike) }
     requires variables { findings.old.variables.items ≡ [] }
     requires instances { findings.old.instances.items ≡ [] }
-    ensures { OnOk result (AreFound seeking.entry.sides.matching.now seeking.entry.sides.old.now seeking.entry.sides.new.now findings.new) }
+    ensures { OnOk result (AreFoundAssuming (assumptions seeking.entry.sides.assumed) seeking.entry.sides.matching.now seeking.entry.sides.old.now seeking.entry.sides.new.now findings.new) }
 {
     find_sort(alloc, seeking, NameSort::Variables, &mut findings.variables)?;
     find_sort(alloc, seeking, NameSort::Instances, &mut findings.instances)
@@ -132,7 +134,7 @@ pub(crate) fn find_with(alloc: Global, seeking: Seeking<'_>) -> Result<RunFindin
     requires beside { StandBeside seeking.sides }
     requires prepared { IsPrepared seeking.sides seeking.prepared.now }
     requires alike { StayAlikeIn seeking.sides.matching.now seeking.sides.old.now seeking.sides.new.now (option_map (λ m. m.now) seeking.alike) }
-    ensures { IfOk result (AreFound seeking.entry.sides.matching.now seeking.entry.sides.old.now seeking.entry.sides.new.now) }
+    ensures { IfOk result (AreFoundAssuming (assumptions seeking.entry.sides.assumed) seeking.entry.sides.matching.now seeking.entry.sides.old.now seeking.entry.sides.new.now) }
 {
     let mut findings = RunFindings {
         variables: Vec::new(alloc),

@@ -3,7 +3,8 @@
 ghost use Rattle.std.specs.Prelude.{◌≡◌, IfOk, map};
 ghost use Rattle.diagram_program.specs.Program.{Drawing};
 ghost use Rattle.diff_meaning.specs.declared.verdict.Verdict.TheVariants.{Same};
-ghost use Rattle.diff_run_verdicts.specs.RunVerdicts.{AreFound, AreTrueOfRuns};
+ghost use Rattle.diff_runs.specs.Assuming.{Assumptions};
+ghost use Rattle.diff_run_verdicts.specs.RunVerdicts.{AreFoundAssuming, AreTrueOfRunsAssuming};
 ghost use Rattle.diff_run_verdicts.specs.Telling.{AreToldOf, verdict_of};
 
 use crate::findings::RunFindings;
@@ -41,8 +42,8 @@ fn all_same(alloc: Global, pairs: &[Pair]) -> Result<Vec<Verdict>, AllocError>
     pairs.iter().map(|_| Verdict::Same).collect(alloc)
 }
 
-/// The verdicts on all names by what searches found: what no runs ever show is the same, what some show differs. Of edges, which have no name,
-/// nothing was searched for; they count as the same, for which no row stands.
+/// The verdicts on all names by what searches found: what no runs ever show is the same, what some show differs, whatever was assumed of the inputs.
+/// Of edges, which have no name, nothing was searched for; they count as the same, for which no row stands.
 ///
 /// # Errors
 ///
@@ -53,7 +54,7 @@ pub fn verdicts_of(
     findings: &RunFindings,
 ) -> Result<Verdicts, Memory>
     ensures told { IfOk result (AreToldOf findings.now) }
-    ensures truth { IfOk result (λ v. (p q : Drawing) → AreFound matching.now p q findings.now → AreTrueOfRuns matching.now p q v) }
+    ensures truth { IfOk result (λ v. (a : Assumptions) (p q : Drawing) → AreFoundAssuming a matching.now p q findings.now → AreTrueOfRunsAssuming a matching.now p q v) }
 {
     let variables = all_of(alloc, &findings.variables)?;
     let instances = all_of(alloc, &findings.instances)?;

@@ -1,5 +1,5 @@
 -- The run of b that has runs of both programs in it.
-use Rattle.std.proofs.Common.{◌≡◌, ◌∙◌, ap, arith, false, get_or, length, map, refl, slice_get, sym, true, ℕ, ◌<◌, ◌≤◌, Bool, List, [], ◌∷◌, Some}
+use Rattle.std.proofs.Common.{◌≡◌, ◌∙◌, ap, arith, false, get_or, length, map, refl, slice_get, sym, true, ℕ, ◌<◌, ◌≤◌, Bool, List, [], ◌∷◌, Some, Contains}
 use Rattle.std.proofs.lemmas.List.{get_or-map, length-map}
 use Rattle.std.proofs.lemmas.List.Elements.{All-contains}
 use Rattle.std.proofs.lemmas.Option.{get_or_from_slice_get, slice_get_within}
@@ -8,6 +8,7 @@ use Rattle.diagram_program.specs.Program.{Drawing}
 use Rattle.scan_cycle.specs.Programs.{IsSound, diagram_of}
 use Rattle.scan_cycle.specs.Runs.{IsRun, OneScan}
 use Rattle.scan_cycle.specs.Standing.{Standing}
+use Rattle.diff_matching.specs.declared.matching.Pair.{Pair}
 use Rattle.diff_matching.specs.Matching.{AgreeOnInputs, Matching}
 use Rattle.diff_matching.specs.Runs.{AreRuns, TwoScans, next, with_inputs}
 use Rattle.diff_matching.specs.Suited.{AreBoth}
@@ -57,13 +58,27 @@ takes f b u sizes i is =
     ∙ get_or-map f (inputs_of b) at.0 0 false within
     ∙ ap f (get_or_from_slice_get (inputs_of b) at.0 i 0 at.1)
 
+-- Each input of b takes the value of that which it is with.
+module _ (m of_old of_new : Matching) (p q b : Drawing) (beside : AreBeside m of_old of_new p q b) (scan : TwoScans) (s t : Standing) where
+  pub old_value : (x : Pair) → Contains of_old.inputs x → get_or (with_inputs p scan.old s).held.values x.old false
+      ≡ value_for of_old.inputs of_new.inputs (with_inputs p scan.old s).held.values (with_inputs q scan.new t).held.values x.new
+  old_value x pair = value_of_old of_old.inputs of_new.inputs (with_inputs p scan.old s).held.values (with_inputs q scan.new t).held.values beside.old.inputs.new_once x pair
+
+  pub new_value : AgreeOnInputs m (with_inputs p scan.old s).held (with_inputs q scan.new t).held
+      → (y : Pair) → Contains of_new.inputs y → get_or (with_inputs q scan.new t).held.values y.old false
+      ≡ value_for of_old.inputs of_new.inputs (with_inputs p scan.old s).held.values (with_inputs q scan.new t).held.values y.new
+  new_value agree y pair =
+      value_of_new of_old.inputs of_new.inputs (with_inputs p scan.old s).held.values (with_inputs q scan.new t).held.values beside.new.inputs.new_once
+      (λ x z here there same. let both = beside.inputs.shared x z here there same in agree both.0 (record { old = x.old; new = z.old }) (found_at m.inputs (record { old = x.old; new = z.old }) both))
+      y pair
+
 module _ (m of_old of_new : Matching) (p q b : Drawing) (sound : IsSound (diagram_of b)) (beside : AreBeside m of_old of_new p q b) where
   module _ (scan : TwoScans) (s t u : Standing) (sizes : length u.held.values ≡ length (diagram_of b).inputs) where
     with_old_alike : AgreeOnInputs of_old (with_inputs p scan.old s).held (with_inputs b (all_values of_old of_new p q b scan s t) u).held
     with_old_alike n x is =
         let pair = contained of_old.inputs n x is in
         let value = value_for of_old.inputs of_new.inputs (with_inputs p scan.old s).held.values (with_inputs q scan.new t).held.values in
-        value_of_old of_old.inputs of_new.inputs (with_inputs p scan.old s).held.values (with_inputs q scan.new t).held.values beside.old.inputs.new_once x pair
+        old_value m of_old of_new p q b beside scan s t x pair
         ∙ sym (takes value b u sizes x.new (All-contains (AreBoth true p b) of_old.inputs x beside.old.inputs.are_inputs pair).1)
 
     with_new_alike : AgreeOnInputs m (with_inputs p scan.old s).held (with_inputs q scan.new t).held
@@ -71,9 +86,7 @@ module _ (m of_old of_new : Matching) (p q b : Drawing) (sound : IsSound (diagra
     with_new_alike agree n y is =
         let pair = contained of_new.inputs n y is in
         let value = value_for of_old.inputs of_new.inputs (with_inputs p scan.old s).held.values (with_inputs q scan.new t).held.values in
-        value_of_new of_old.inputs of_new.inputs (with_inputs p scan.old s).held.values (with_inputs q scan.new t).held.values beside.new.inputs.new_once
-        (λ x z here there same. let both = beside.inputs.shared x z here there same in agree both.0 (record { old = x.old; new = z.old }) (found_at m.inputs (record { old = x.old; new = z.old }) both))
-        y pair
+        new_value m of_old of_new p q b beside scan s t agree y pair
         ∙ sym (takes value b u sizes y.new (All-contains (AreBoth true q b) of_new.inputs y beside.new.inputs.are_inputs pair).1)
 
   pub joined_runs : (scans : List TwoScans) (s t u : Standing) → length u.held.values ≡ length (diagram_of b).inputs → u.moment ≤ s.moment → AreRuns m p q scans s t

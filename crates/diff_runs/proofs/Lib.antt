@@ -3,6 +3,7 @@ mod Pairs
 mod Inputs
 mod Alike
 mod Joining
+mod Joint
 mod Never
 mod Parting
 mod Placing

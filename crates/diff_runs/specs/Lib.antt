@@ -1,4 +1,5 @@
 pub mod Beside
+pub mod Assuming
 pub mod Showing
 pub mod Asking
 pub mod Pulling

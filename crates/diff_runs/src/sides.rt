@@ -3,11 +3,12 @@
 ghost use Rattle.std.specs.Prelude.{IsTrue};
 ghost use Rattle.diff_runs.specs.Beside.{AgreeFromFresh, StandBeside};
 
+use crate::assuming::TwoAssumed;
 use crate::sharing::{are_pairs_of_inputs, share_inputs};
 use diagram_program::Program;
 use diff_matching::Matching;
 
-/// Two programs, one in which they are to stand side by side, and what belongs together in each two of them.
+/// Two programs, one in which they are to stand side by side, what belongs together in each two of them, and what is assumed of their inputs.
 #[derive(Clone, Copy)]
 pub struct Sides<'a> {
     pub old: &'a Program,
@@ -19,6 +20,7 @@ pub struct Sides<'a> {
     pub of_old: &'a Matching,
     /// The same for the new program.
     pub of_new: &'a Matching,
+    pub assumed: TwoAssumed<'a>,
 }
 
 /// Whether the inputs are paired as they are where two programs stand side by side. Then they do if each of them agrees with that program.

@@ -4,14 +4,15 @@ ghost use Rattle.std.specs.Prelude.{IfOk};
 ghost use Rattle.reach_runs.specs.Asking.{RunQuestion, StaysOff, SwitchesOn};
 ghost use Rattle.reach_search.specs.Searches.{IsVerdict};
 ghost use Rattle.diff_runs.specs.Asking.{AreIn, question};
+ghost use Rattle.diff_runs.specs.Assuming.{assumptions};
 ghost use Rattle.diff_runs.specs.Beside.{StandBeside};
-ghost use Rattle.diff_search.specs.Differences.{AreBothOff, AreShowing, IsNoRun, IsPrepared, IsTrueInRuns};
+ghost use Rattle.diff_search.specs.Differences.{AreBothOff, AreShowingAssuming, IsNoRun, IsPrepared, IsTrueInRunsAssuming};
 
 use crate::difference::{RunDifference, TwoRuns};
 use crate::preparing::Prepared;
 use diff_runs::laws::{never_shown, not_shown, shown};
 use diff_runs::{Sides, TwoSymbols, pulled};
-use reach_runs::{Literal, RunQuery, RunScan};
+use reach_runs::{Literal, RunQuery, RunScan, Timing};
 use reach_search::{Limits, Sought, Verdict, seek};
 use scan_cycle::Memory;
 use std::alloc::{AllocError, Global};
@@ -26,8 +27,8 @@ fn seek_value(
     limits: Limits,
 ) -> Result<Sought, Memory>
     requires { IsPrepared sides prepared.now }
-    ensures verdict { IfOk result (λ s. IsVerdict (question sides.entry.both.now there value) s.verdict) }
-    ensures off { IfOk result (λ s. StaysOff (question sides.entry.both.now there value) s.scans) }
+    ensures verdict { IfOk result (λ s. IsVerdict (question sides.entry.both.now there value prepared.now.joint) s.verdict) }
+    ensures off { IfOk result (λ s. StaysOff (question sides.entry.both.now there value prepared.now.joint) s.scans) }
 {
     let target = [
         Literal {
@@ -39,7 +40,15 @@ fn seek_value(
             value: !value,
         },
     ];
-    let query = RunQuery::unassumed(sides.both, &prepared.begun, 0, &prepared.inputs, &target);
+    let query = RunQuery {
+        program: sides.both,
+        state: &prepared.begun,
+        from: 0,
+        timing: Timing::AnyMoments,
+        listed: &prepared.inputs,
+        target: &target,
+        assumed: prepared.joint.as_ref(),
+    };
     seek(alloc, query, limits)
 }
 
@@ -54,8 +63,8 @@ fn two_runs(
     requires beside { StandBeside sides }
     requires prepared { IsPrepared sides prepared.now }
     ensures { IfOk result (λ runs. (x there : TwoSymbols) → AreIn sides.entry.of_old.now sides.entry.of_new.now x there
-        → SwitchesOn (question sides.entry.both.now there value) run.now
-        → AreShowing sides.entry.matching.now sides.entry.old.now sides.entry.new.now x runs) }
+        → SwitchesOn (question sides.entry.both.now there value prepared.now.joint) run.now
+        → AreShowingAssuming (assumptions sides.entry.assumed) sides.entry.matching.now sides.entry.old.now sides.entry.new.now x runs) }
 {
     shown(sides.old, sides.new, sides.both);
     Ok(TwoRuns {
@@ -81,7 +90,8 @@ fn none_shown(on: &Sought, off: &Sought) -> RunDifference
 }
 
 /// Searches for runs of two programs, from their fresh states, after which a symbol of the one and one of the other are different: those of which
-/// the one is ON and the other OFF, then the other way. `there` are the symbols that stand for them in the program in which both stand.
+/// the one is ON and the other OFF, then the other way. In each scan what is assumed of both programs is true. `there` are the symbols that stand for
+/// them in the program in which both stand.
 ///
 /// # Errors
 ///
@@ -97,7 +107,7 @@ pub fn seek_difference(
     requires beside { StandBeside sides }
     requires prepared { IsPrepared sides prepared.now }
     requires there { AreIn sides.of_old.now sides.of_new.now symbols there }
-    ensures { IfOk result (IsTrueInRuns sides.entry.matching.now sides.entry.old.now sides.entry.new.now symbols) }
+    ensures { IfOk result (IsTrueInRunsAssuming (assumptions sides.entry.assumed) sides.entry.matching.now sides.entry.old.now sides.entry.new.now symbols) }
 {
     never_shown(sides.old, sides.new, sides.both);
     not_shown(sides.old, sides.new, sides.both);

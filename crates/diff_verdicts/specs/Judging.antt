@@ -12,7 +12,8 @@ use Rattle.diff_cases.specs.Alike.{IsComparable}
 use Rattle.diff_cases.specs.Cases.{IsToldAlike}
 use Rattle.diff_cases.specs.declared.target.Target.{Target}
 use Rattle.diff_meaning.specs.declared.counted.Counted.{Counted}
-use Rattle.diff_meaning.specs.declared.counted.Counted.TheVariants.{All, Reachable}
+use Rattle.diff_meaning.specs.declared.counted.CountedStates.{CountedStates}
+use Rattle.diff_meaning.specs.declared.counted.CountedStates.TheVariants.{All, Reachable}
 use Rattle.diff_meaning.specs.declared.verdict.PairSort.TheVariants.{Variables, Instances}
 use Rattle.diff_meaning.specs.declared.verdict.TheConstants.{MOMENT}
 use Rattle.diff_verdicts.specs.Carrying.{Knowns, carried_all}
@@ -43,11 +44,14 @@ no_claims p = record { variables = replicate (length p.decls.vars) Unsure; insta
 abbrev pub knowing_nothing : Drawing → Known Tri Outcome
 knowing_nothing p = knowing p (no_claims p)
 
--- All that is known of two states that agree and count: nothing, or what stays so in each program, and of what belongs together in both.
-abbrev pub opening : Counted → Matching → Drawing → Drawing → Knowns
-opening All m p q = record { of_old = knowing_nothing p; of_new = knowing_nothing q }
-opening (Reachable old new) m p q =
+-- All that is known of two states that agree and are among these: nothing, or what stays so in each program, and of what belongs together in both.
+abbrev pub opening_among : CountedStates → Matching → Drawing → Drawing → Knowns
+opening_among All m p q = record { of_old = knowing_nothing p; of_new = knowing_nothing q }
+opening_among (Reachable old new) m p q =
     carried_all Instances m.instances (carried_all Variables m.variables (record { of_old = knowing p old.steady; of_new = knowing q new.steady }))
+
+abbrev pub opening : Counted → Matching → Drawing → Drawing → Knowns
+opening c m p q = opening_among c.states m p q
 
 -- One scan of each over three values tells that the target is left alike, from all that is known where states agree and count.
 abbrev pub IsToldAtOnce : Counted → Matching → Drawing → Drawing → Target → Type 0

@@ -2,6 +2,7 @@
 
 ghost use Rattle.std.specs.Prelude.{◌≡◌, ◌<◌, ◌↔◌, IfSome, IsNone, IsTrue, false};
 ghost use Rattle.diff_cases.specs.Alike.{IsComparable};
+ghost use Rattle.diff_cases.specs.Assuming.{assumed_of_both};
 ghost use Rattle.diff_cases.specs.Buffers.{AreAlikeBuffers};
 ghost use Rattle.diff_meaning.specs.Counting.{AreOfPrograms};
 ghost use Rattle.diff_meaning.specs.Verdicts.{CanBeJudged, LeavesAlikeWhere, Shows};
@@ -14,7 +15,7 @@ use diff_cases::cases::settle;
 use diff_cases::laws::settled_alike;
 use diff_cases::partners::are_of_one_kind;
 use diff_cases::{AlikeBuffers, AlikeQuestion, Target};
-use diff_meaning::Counted;
+use diff_meaning::{Counted, CountedStates};
 use invariant_sets::laws::knowing_allows;
 
 /// Whether the target can be compared by its steps.
@@ -31,13 +32,14 @@ fn is_comparable(question: AlikeQuestion<'_>) -> bool
 /// Whether at most so many looks settle that the target is left alike from all states that agree and count.
 fn is_same_among(
     question: AlikeQuestion<'_>,
-    counted: &Counted,
+    counted: &Counted<'_>,
     nothing: &Nothing,
     buffers: &mut AlikeBuffers,
     looks: u32,
 ) -> bool
     requires target { CanBeJudged question.matching.now question.target }
     requires counted { AreOfPrograms counted.now question.old.now question.new.now }
+    requires assumed { assumed_of_both question.assumed ≡ assumed_of_both counted.now.assumed }
     requires nothing { ClaimNothing question.old.now question.new.now nothing.now }
     requires buffers { AreAlikeBuffers question.old.now question.new.now buffers.old }
     ensures same { IsTrue result
@@ -54,17 +56,44 @@ fn is_same_among(
     is_comparable(question) && settle(question, buffers, looks).is_settled
 }
 
+/// Whether at most so many looks settle that the target is left alike from all states that agree in which what is assumed is true.
+fn is_same_everywhere(
+    question: AlikeQuestion<'_>,
+    counted: &Counted<'_>,
+    nothing: &Nothing,
+    buffers: &mut AlikeBuffers,
+    looks: u32,
+) -> bool
+    requires target { CanBeJudged question.matching.now question.target }
+    requires assumed { assumed_of_both question.assumed ≡ assumed_of_both counted.now.assumed }
+    requires nothing { ClaimNothing question.old.now question.new.now nothing.now }
+    requires buffers { AreAlikeBuffers question.old.now question.new.now buffers.old }
+    ensures same { IsTrue result
+        → LeavesAlikeWhere counted.now question.entry.matching.now question.entry.old.now question.entry.new.now question.entry.target }
+    ensures none { looks ≡ 0 → result ≡ false }
+    ensures buffers { AreAlikeBuffers question.entry.old.now question.entry.new.now buffers.new }
+{
+    let all = Counted {
+        states: CountedStates::All,
+        assumed: counted.assumed,
+    };
+    let is_same = is_same_among(question, &all, nothing, buffers, looks);
+    drop(all);
+    is_same
+}
+
 /// Whether at most so many looks settle that the target is left alike from all states that agree and count, or else as many that it is from all
-/// states that agree: less is known of these, so other cases are looked at.
+/// states that agree in which what is assumed is true: less is known of these, so other cases are looked at.
 pub(crate) fn is_same(
     question: AlikeQuestion<'_>,
-    counted: &Counted,
+    counted: &Counted<'_>,
     nothing: &Nothing,
     buffers: &mut AlikeBuffers,
     looks: u32,
 ) -> bool
     requires target { CanBeJudged question.matching.now question.target }
     requires counted { AreOfPrograms counted.now question.old.now question.new.now }
+    requires assumed { assumed_of_both question.assumed ≡ assumed_of_both counted.now.assumed }
     requires nothing { ClaimNothing question.old.now question.new.now nothing.now }
     requires buffers { AreAlikeBuffers question.old.now question.new.now buffers.old }
     ensures same { IsTrue result
@@ -77,13 +106,10 @@ pub(crate) fn is_same(
     if is_same_among(question, counted, nothing, buffers, looks) {
         return true;
     }
-    match counted {
-        Counted::All => false,
-        Counted::Reachable { .. } => {
-            let all = Counted::All;
-            let is_same = is_same_among(question, &all, nothing, buffers, looks);
-            drop(all);
-            is_same
+    match counted.states {
+        CountedStates::All => false,
+        CountedStates::Reachable { .. } => {
+            is_same_everywhere(question, counted, nothing, buffers, looks)
         }
     }
 }
@@ -91,7 +117,7 @@ pub(crate) fn is_same(
 /// What two scans leave of the target from states that agree and count, where at most so many looks find such that leave it different.
 pub(crate) fn find(
     question: AlikeQuestion<'_>,
-    counted: &Counted,
+    counted: &Counted<'_>,
     nothing: &Nothing,
     buffers: &mut AlikeBuffers,
     tried: &mut Tried,

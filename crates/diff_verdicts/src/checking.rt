@@ -4,7 +4,7 @@ ghost use Rattle.std.specs.Prelude.{◌≡◌, ◌↔◌, IfOk, IfSome, IsTrue};
 ghost use Rattle.scan_cycle.specs.Standing.{Fits};
 ghost use Rattle.diff_matching.specs.Matching.{Agree, AgreeOnInputs, scanned};
 ghost use Rattle.diff_cases.specs.Alike.{AreAlike};
-ghost use Rattle.diff_meaning.specs.Counting.{AreOfPrograms, Count};
+ghost use Rattle.diff_meaning.specs.Counting.{AreAmong, AreOfPrograms, AreSaidOf, Count};
 ghost use Rattle.diff_meaning.specs.Verdicts.{Shows, new_value, old_value};
 ghost use Rattle.diff_meaning.specs.declared.verdict.TheConstants.{MOMENT};
 ghost use Rattle.diff_verdicts.specs.Judging.{AreTried};
@@ -12,7 +12,7 @@ ghost use Rattle.diff_verdicts.specs.Judging.{AreTried};
 use diagram_program::Program;
 use diff_cases::{AlikeQuestion, Target};
 use diff_matching::agree;
-use diff_meaning::{Counted, MOMENT};
+use diff_meaning::{Counted, CountedStates, MOMENT};
 use invariant_runs::stays_so;
 use scan_cycle::{Memory, State, scan};
 use scan_signals::Stored;
@@ -136,22 +136,32 @@ fn scan_copy(program: &Program, state: &State, end: &mut State)
     }
 }
 
-/// Whether the two states count.
-fn count(question: AlikeQuestion<'_>, counted: &Counted, tried: &Tried) -> bool
-    requires { AreOfPrograms counted.now question.old.now question.new.now }
-    ensures { IsTrue result → Count counted.now tried.now.old_state.held tried.now.new_state.held }
+/// Whether the two states are among those that count where nothing is assumed.
+fn are_among(question: AlikeQuestion<'_>, states: &CountedStates, tried: &Tried) -> bool
+    requires { AreSaidOf states.now question.old.now question.new.now }
+    ensures { IsTrue result → AreAmong states.now tried.now.old_state.held tried.now.new_state.held }
 {
-    match counted {
-        Counted::All => true,
-        Counted::Reachable { old, new } => {
+    match states {
+        CountedStates::All => true,
+        CountedStates::Reachable { old, new } => {
             stays_so(question.old, old, &tried.old_state)
                 && stays_so(question.new, new, &tried.new_state)
         }
     }
 }
 
+/// Whether the two states count.
+fn count(question: AlikeQuestion<'_>, counted: &Counted<'_>, tried: &Tried) -> bool
+    requires { AreOfPrograms counted.now question.old.now question.new.now }
+    ensures { IsTrue result → Count counted.now tried.now.old_state.held tried.now.new_state.held }
+{
+    let assumed = counted.assumed;
+    are_among(question, &counted.states, tried)
+        && assumed.are_true_in(&tried.old_state, &tried.new_state)
+}
+
 /// Whether the two states agree and count.
-fn are_to_be_tried(question: AlikeQuestion<'_>, counted: &Counted, tried: &Tried) -> bool
+fn are_to_be_tried(question: AlikeQuestion<'_>, counted: &Counted<'_>, tried: &Tried) -> bool
     requires { AreOfPrograms counted.now question.old.now question.new.now }
     ensures agree { IsTrue result → Agree question.entry.matching.now tried.now.old_state.held tried.now.new_state.held }
     ensures inputs { IsTrue result → AgreeOnInputs question.entry.matching.now tried.now.old_state.held tried.now.new_state.held }
@@ -163,7 +173,7 @@ fn are_to_be_tried(question: AlikeQuestion<'_>, counted: &Counted, tried: &Tried
 /// What a scan of each of the two states leaves, where they agree and count and it leaves the target different.
 pub(crate) fn check(
     question: AlikeQuestion<'_>,
-    counted: &Counted,
+    counted: &Counted<'_>,
     tried: &mut Tried,
 ) -> Option<Ends>
     requires counted { AreOfPrograms counted.now question.old.now question.new.now }

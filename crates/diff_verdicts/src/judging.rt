@@ -31,18 +31,22 @@ pub struct Judge<'a> {
     old_program: &'a Program,
     new_program: &'a Program,
     matching: &'a Matching,
-    counted: &'a Counted,
+    counted: &'a Counted<'a>,
     writers: BothWriters,
     aids: Aids,
     tried: Tried,
 }
 
 impl<'a> Model for Judge<'a> {
+    ghost use Rattle.std.specs.Coded.{codes};
+    ghost use Rattle.st_expression.specs.contracts.expression.Expression as expression;
     ghost use Rattle.diff_cases.specs.Buffers.{AreAlikeBuffers};
     ghost use Rattle.diff_meaning.specs.Counting.{AreOfPrograms};
     ghost use Rattle.diff_verdicts.specs.Judging.{AreTried, ClaimNothing, Judging};
 
     ghost Value = { Judging };
+
+    ghost coded = { Prim.hlevel (codes, expression.the_row.coded) };
 
     ghost view = { λ j. record {
       old_program = j.old_program.now;
@@ -77,7 +81,7 @@ impl<'a> Judge<'a> {
         old: &'a Program,
         new: &'a Program,
         matching: &'a Matching,
-        counted: &'a Counted,
+        counted: &'a Counted<'a>,
     ) -> Result<Judge<'a>, Memory>
         requires { AreOfPrograms counted.now old.now new.now }
         ensures old { IfOk result (λ j. j.old_program ≡ old.now) }
@@ -179,15 +183,16 @@ impl<'a> Judge<'a> {
         ensures none { looks ≡ 0 → result ≡ Unsettled }
         ensures same { JudgesTheSame self.old self.new }
     {
+        let counted = self.counted;
         let question = AlikeQuestion {
             old: self.old_program,
             new: self.new_program,
             old_writers: &self.writers.of_old,
             new_writers: &self.writers.of_new,
             matching: self.matching,
+            assumed: counted.assumed,
             target,
         };
-        let counted = self.counted;
         let nothing = &self.aids.nothing;
         if is_same(question, counted, nothing, &mut self.aids.buffers, looks) {
             return Verdict::Same;

@@ -12,7 +12,7 @@ use crate::sorts::{pairs_of, point_in};
 use diagram_program::Program;
 use diff_cases::{AlikeBuffers, AlikeQuestion};
 use diff_matching::{Matching, Pair};
-use diff_meaning::{Counted, PairSort};
+use diff_meaning::{Counted, CountedStates, PairSort};
 use invariant_cases::pinning::{pin, told};
 use invariant_cases::{Outcome, Point};
 use invariant_sets::Set;
@@ -86,10 +86,10 @@ fn carry_all(
     }
 }
 
-/// Knows what is known of states that agree and count.
+/// Knows what is known of states that agree and count, but for what is assumed.
 pub(crate) fn open_all(
     question: AlikeQuestion<'_>,
-    counted: &Counted,
+    counted: &Counted<'_>,
     nothing: &Nothing,
     buffers: &mut AlikeBuffers,
 )
@@ -101,12 +101,12 @@ pub(crate) fn open_all(
 {
     let of_old = &mut buffers.of_old.case;
     let of_new = &mut buffers.of_new.case;
-    match counted {
-        Counted::All => {
+    match &counted.states {
+        CountedStates::All => {
             know(question.old, &nothing.of_old, of_old);
             know(question.new, &nothing.of_new, of_new);
         }
-        Counted::Reachable { old, new } => {
+        CountedStates::Reachable { old, new } => {
             know(question.old, &old.steady, of_old);
             know(question.new, &new.steady, of_new);
             carry_all(PairSort::Variables, question.matching, of_old, of_new);

@@ -9,7 +9,7 @@ ghost use Rattle.diff_verdicts.specs.Judging.{AreTried};
 use crate::candidate::make;
 use crate::checking::{Ends, Tried, check};
 use crate::content::Form;
-use diff_cases::choosing::next_joint;
+use diff_cases::choosing::{assumed_joint, next_joint};
 use diff_cases::looking::look;
 use diff_cases::partners::are_of_one_kind;
 use diff_cases::pinning::{pin_answer_in, pin_in};
@@ -92,7 +92,7 @@ fn take(
 /// Tries states that the case allows.
 fn try_forms(
     question: AlikeQuestion<'_>,
-    counted: &Counted,
+    counted: &Counted<'_>,
     buffers: &AlikeBuffers,
     tried: &mut Tried,
 ) -> Option<Ends>
@@ -112,12 +112,25 @@ fn try_forms(
     None
 }
 
+/// What further cases are made of where what is assumed isn't true in the states that were tried: an input that leaves that open.
+fn joint_where_false(
+    question: AlikeQuestion<'_>,
+    buffers: &AlikeBuffers,
+    tried: &Tried,
+) -> Option<Joint> {
+    let assumed = question.assumed;
+    if assumed.are_true_in(&tried.old_state, &tried.new_state) {
+        return None;
+    }
+    assumed_joint(question, buffers)
+}
+
 /// Tries to find two states that agree and that show a difference, among those that the case allows: by further cases, and by at most so many
 /// looks, each a scan of each program. What is found is checked as it stands.
 #[cycle(seeking)]
 pub(crate) fn seek(
     question: AlikeQuestion<'_>,
-    counted: &Counted,
+    counted: &Counted<'_>,
     buffers: &mut AlikeBuffers,
     tried: &mut Tried,
     looks: u32,
@@ -139,6 +152,14 @@ pub(crate) fn seek(
         };
     }
     let left = looks - 1;
+    let assumed = question.assumed;
+    // No states count that are in the case.
+    if assumed.is_one_false(&buffers.of_old.case, &buffers.of_new.case) {
+        return Attempt {
+            found: None,
+            looks: left,
+        };
+    }
     let likeness = look(question, buffers);
     if likeness == Likeness::Open {
         if let Some(joint) = next_joint(question, buffers) {
@@ -151,17 +172,68 @@ pub(crate) fn seek(
             looks: left,
         };
     }
-    Attempt {
-        found: try_forms(question, counted, buffers, tried),
-        looks: left,
+    try_case(question, counted, buffers, tried, left)
+}
+
+/// Tries states that the case allows, or else, where what is assumed isn't true in them, those of further cases.
+#[cycle(seeking)]
+fn try_case(
+    question: AlikeQuestion<'_>,
+    counted: &Counted<'_>,
+    buffers: &mut AlikeBuffers,
+    tried: &mut Tried,
+    looks: u32,
+) -> Attempt
+    requires counted { AreOfPrograms counted.now question.old.now question.new.now }
+    requires buffers { AreAlikeBuffers question.old.now question.new.now buffers.old }
+    requires tried { AreTried question.old.now question.new.now tried.old }
+    ensures shown { IfSome result.found (λ ends. Shows counted.now question.entry.matching.now question.entry.old.now question.entry.new.now question.entry.target
+        tried.new.old_state tried.new.new_state ends.of_old ends.of_new) }
+    ensures looks { result.looks ≤ looks }
+    ensures buffers { AreAlikeBuffers question.entry.old.now question.entry.new.now buffers.new }
+    ensures tried { AreTried question.entry.old.now question.entry.new.now tried.new }
+{
+    let found = try_forms(question, counted, &*buffers, tried);
+    if found.is_some() {
+        return Attempt { found, looks };
     }
+    match joint_where_false(question, &*buffers, &*tried) {
+        Some(joint) => by_cases(question, counted, joint, buffers, tried, looks),
+        None => Attempt { found: None, looks },
+    }
+}
+
+/// The same in one case, where there is that one.
+#[cycle(seeking)]
+fn in_case(
+    question: AlikeQuestion<'_>,
+    counted: &Counted<'_>,
+    joint: Joint,
+    answer: Answer,
+    buffers: &mut AlikeBuffers,
+    tried: &mut Tried,
+    looks: u32,
+) -> Attempt
+    requires counted { AreOfPrograms counted.now question.old.now question.new.now }
+    requires buffers { AreAlikeBuffers question.old.now question.new.now buffers.old }
+    requires tried { AreTried question.old.now question.new.now tried.old }
+    ensures shown { IfSome result.found (λ ends. Shows counted.now question.entry.matching.now question.entry.old.now question.entry.new.now question.entry.target
+        tried.new.old_state tried.new.new_state ends.of_old ends.of_new) }
+    ensures looks { result.looks ≤ looks }
+    ensures buffers { AreAlikeBuffers question.entry.old.now question.entry.new.now buffers.new }
+    ensures tried { AreTried question.entry.old.now question.entry.new.now tried.new }
+{
+    if !take(question, joint, answer, buffers) {
+        return Attempt { found: None, looks };
+    }
+    seek(question, counted, buffers, tried, looks)
 }
 
 /// The same in each case.
 #[cycle(seeking)]
 fn by_cases(
     question: AlikeQuestion<'_>,
-    counted: &Counted,
+    counted: &Counted<'_>,
     joint: Joint,
     buffers: &mut AlikeBuffers,
     tried: &mut Tried,
@@ -178,13 +250,11 @@ fn by_cases(
 {
     let mut left = looks;
     for case in 0..CASES.len() {
-        if take(question, joint, CASES[case], buffers) {
-            let attempt = seek(question, counted, buffers, tried, left);
-            if attempt.found.is_some() {
-                return attempt;
-            }
-            left = attempt.looks;
+        let attempt = in_case(question, counted, joint, CASES[case], buffers, tried, left);
+        if attempt.found.is_some() {
+            return attempt;
         }
+        left = attempt.looks;
     }
     take(question, joint, Answer::Open, buffers);
     Attempt {

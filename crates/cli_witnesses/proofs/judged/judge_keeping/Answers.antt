@@ -1,4 +1,4 @@
-use Rattle.std.proofs.Common.{inl, subst, true}
+use Rattle.std.proofs.Common.{None, inl, subst, true}
 use Rattle.io_text.specs.Log.{PutsAll, WriteLog}
 use Rattle.cli_inputs.specs.Reports.{logs}
 use Rattle.cli_inputs.specs.Setting.{given_by}
@@ -17,7 +17,7 @@ returns-in-Ok-judge_programs-clause-done g c =
     let kept = c.in-Ok-judge_programs.kept in
     counts_verdicts (given_by c.args.texts.now.old) (given_by c.args.texts.now.new) c.args.request.now
     (record { old = p; new = q; matching = kept.matching; witnesses = kept.witnesses.items; why = c.args.texts.now.old.why }) _ _ _ c.in-Ok.ensures.old c.in-Ok.ensures.new
-    (subst (λ (x : WriteLog). Ends (FindsKept true c.args.request.now.reachable p q kept.matching kept.witnesses.items) c.args.request.now.quiet
+    (subst (λ (x : WriteLog). Ends (FindsKept None true c.args.request.now.reachable p q kept.matching kept.witnesses.items) c.args.request.now.quiet
     (g.O.Sink.log c.args.out.now) (g.O.Sink.log c.judge_programs.new.out) (PutsAll x (g.E.Sink.log c.judge_programs.new.err)))
     c.in-Ok.ensures.unsaid c.in-Ok-judge_programs.ensures.done)
 
@@ -28,7 +28,7 @@ returns-in-Ok-judge_programs-clause-kept g c =
     let kept = c.in-Ok-judge_programs.kept in
     keeps_witnesses (given_by c.args.texts.now.old) (given_by c.args.texts.now.new) c.args.request.now
     (record { old = p; new = q; matching = kept.matching; witnesses = kept.witnesses.items; why = c.args.texts.now.old.why }) _ _ _ c.in-Ok.ensures.old c.in-Ok.ensures.new
-    (subst (λ (x : WriteLog). Ends (FindsKept true c.args.request.now.reachable p q kept.matching kept.witnesses.items) c.args.request.now.quiet
+    (subst (λ (x : WriteLog). Ends (FindsKept None true c.args.request.now.reachable p q kept.matching kept.witnesses.items) c.args.request.now.quiet
     (g.O.Sink.log c.args.out.now) (g.O.Sink.log c.judge_programs.new.out) (PutsAll x (g.E.Sink.log c.judge_programs.new.err)))
     c.in-Ok.ensures.unsaid c.in-Ok-judge_programs.ensures.done)
 

@@ -14,6 +14,6 @@ returns-in-Ok-true c =
       same,
       begin,
       untold,
-      λ scans runs.
-          c.fresh_runs_agree.ensures a.counted.now a.matching.now a.verdicts.now c.requires.stays c.requires.judged same c.requires.no_input begin.0 scans runs,
+      λ scans runs as_assumed.
+          c.fresh_runs_agree_assuming.ensures a.counted.now a.matching.now a.verdicts.now c.requires.stays c.requires.judged same c.requires.no_input begin.0 scans runs as_assumed,
     )

@@ -1,13 +1,16 @@
 use Rattle.std.proofs.Common.{true, false}
 use Rattle.diff_runs.specs.Asking.{question}
+use Rattle.diff_runs.specs.Assuming.{assumptions}
 use Rattle.diff_search.proofs.Telling.{told}
 use Rattle.diff_search.proofs.seeking.seek_difference.Goals as goal
 
 pub returns : goal.returns
 returns c =
     let s = c.args.sides in
+    let prepared = c.args.prepared.now in
+    let joint = prepared.joint in
     let on = c.in_ok-on.ensures in
     let off = c.in_ok-off.ensures in
     told s.matching.now s.of_old.now s.of_new.now s.old.now s.new.now s.both.now c.never_shown.ensures c.not_shown.ensures c.requires.beside c.args.symbols c.args.there
-    c.requires.there c.none_shown.result
-    (c.none_shown.ensures (question s.both.now c.args.there true) (question s.both.now c.args.there false) on.verdict on.off off.verdict off.off)
+    c.requires.there (assumptions s.assumed) prepared.old_places.items prepared.new_places.items joint c.requires.prepared.joined c.none_shown.result
+    (c.none_shown.ensures (question s.both.now c.args.there true joint) (question s.both.now c.args.there false joint) on.verdict on.off off.verdict off.off)

@@ -1,5 +1,6 @@
 use Rattle.std.proofs.Common.{◌∙◌, ap, map, sym}
 use Rattle.std.proofs.lemmas.Simd.{map-map}
+use Rattle.diff_runs.specs.Assuming.{assumptions}
 use Rattle.diff_runs.specs.Pulling.{pulled, pulled_scan}
 use Rattle.diff_matching.specs.Runs.{new_scan, old_scan}
 use Rattle.diff_search.proofs.seeking.two_runs.Goals as goal
@@ -12,8 +13,8 @@ returns c =
     let run = c.args.run.now in
     λ x there are_in switched. record {
       scans = map (pulled olds news) run;
-      shows = c.shown.ensures s.matching.now s.of_old.now s.of_new.now c.requires.beside x there are_in olds news
-          c.requires.prepared.old_places c.requires.prepared.new_places c.args.value run switched;
+      shows = c.shown.ensures s.matching.now s.of_old.now s.of_new.now c.requires.beside x there are_in (assumptions s.assumed)
+          olds news c.args.prepared.now.joint c.requires.prepared.joined c.args.value run switched;
       of_old = c.in_ok-pulled.ensures ∙ ap (λ places. map (pulled_scan places) run) c.deref.ensures.value ∙ sym (map-map old_scan (pulled olds news) run);
       of_new = c.in_ok-pulled-2.ensures ∙ ap (λ places. map (pulled_scan places) run) c.deref-2.ensures.value ∙ sym (map-map new_scan (pulled olds news) run);
     }
