@@ -8,9 +8,13 @@ and where a run tells them apart, or they begin differently, it mustn't be said.
 agree, and one scan of each by `running.py`, at the moment of the stimulus and with its inputs, must leave what the row says; `sim` must read
 all three. With `--reachable` no `same` may be contradicted by the next scan of states that runs reach and that agree, what is saved must be
 as `never` lists it, and what is the same from all states must be the same.
+
+In half of the trials something is assumed of the inputs: random expressions over inputs of both. Then only states and runs count with which they are
+true in each scan, which all that is saved must be.
 """
 import argparse
 import concurrent.futures
+import itertools
 import os
 import pathlib
 import random
@@ -19,6 +23,7 @@ import sys
 import tempfile
 from collections import Counter
 
+from assuming import counts_end, random_expression, truth, words_of, written
 from differential import LARGE, SMALL, drawing
 from differing import changed, edges_of, instances_of
 from model import Program, forget
@@ -36,11 +41,40 @@ def addresses_of(text):
     return {name.upper(): f"%{letter.upper()}X{int(first)}" + (f".{int(second)}" if second else "") for name, letter, first, second in found}
 
 
-def contradicted_in_runs(chance, pair, same):
+class Assumed:
+    """What is assumed of inputs that both programs have: nothing, or some expressions."""
+
+    def __init__(self, chance, pair):
+        common = [name for name in pair.variables if name in pair.new.inputs]
+        self.operands = chance.sample(common, min(len(common), 4))
+        number = chance.choice([0, 0, 1, 2]) if self.operands else 0
+        self.expressions = [random_expression(chance, self.operands, chance.choice([1, 2, 3])) for _ in range(number)]
+        self.words = [f"--assume={written(chance, words_of(chance, expression))[0]}" for expression in self.expressions]
+
+    def holds(self, values):
+        return all(truth(expression, values) for expression in self.expressions)
+
+    def is_ever_true(self):
+        return any(self.holds(dict(zip(self.operands, values))) for values in itertools.product([False, True], repeat=len(self.operands)))
+
+    def inputs(self, chance, names):
+        """Random values of inputs with which it is true, as it is with some."""
+        while True:
+            values = {name: chance.random() < 0.5 for name in names}
+            if self.holds(values):
+                return values
+
+    def counts(self, line, equivalent):
+        """The lines on standard error, where the counts begin so."""
+        end, _, warnings = counts_end(self.expressions).partition("\n") if self.expressions else ("", "", "")
+        return line + end + "\n" + "equivalent\n" * equivalent + warnings
+
+
+def contradicted_in_runs(chance, pair, same, assumed):
     """Names that are the same by the program, and that the next scan leaves different from states that runs reach and that agree."""
     first, second, moment = Running(pair.old), Running(pair.new), 0
     for _ in range(30):
-        values = {name: chance.random() < 0.5 for name in pair.new.inputs}
+        values = assumed.inputs(chance, pair.new.inputs)
         begun = pair.different(first, second)
         first.scan({name: value for name, value in values.items() if name in pair.old.inputs}, moment)
         second.scan(values, moment)
@@ -175,11 +209,14 @@ def wrong_rows(pair, rows):
             if row[0] != one[0] or (row[1] not in ("same", "differs", "?") if one[1] is None else row != list(one))]
 
 
-def contradicted(chance, pair, same, number):
+def contradicted(chance, pair, same, number, assumed):
     """Names that are the same by the program and are left different from some of so many states that agree."""
     for _ in range(number):
         moment = chance.choice(MOMENTS)
         first, second = shared_states(chance, pair, moment)
+        given = assumed.inputs(chance, assumed.operands)
+        first.values.update(given)
+        second.values.update(given)
         later = moment + chance.choice([0, 0, 1, 3, 6000])
         first.scan({}, later)
         second.scan({}, later)
@@ -189,11 +226,11 @@ def contradicted(chance, pair, same, number):
     return []
 
 
-def told_apart(chance, pair):
+def told_apart(chance, pair, assumed):
     """Whether a run with random inputs from the fresh states tells the programs apart."""
     first, second, moment = Running(pair.old), Running(pair.new), 0
     for _ in range(30):
-        values = {name: chance.random() < 0.5 for name in pair.new.inputs}
+        values = assumed.inputs(chance, pair.new.inputs)
         first.scan({name: value for name, value in values.items() if name in pair.old.inputs}, moment)
         second.scan(values, moment)
         if pair.different(first, second):
@@ -257,21 +294,26 @@ class Trial:
         pair = Pair(self.texts["old"], self.texts["new"])
         if not pair.old.rungs or not pair.new.rungs:
             return None
-        out, err, status = run(self.tool, ["diff", "--save", "saved", "old.ld", "new.ld"], self.folder)
+        self.assumed = assumed = Assumed(self.chance, pair)
+        tally["with something assumed"] += bool(assumed.expressions)
+        out, err, status = run(self.tool, ["diff", "--save", "saved", *assumed.words, "old.ld", "new.ld"], self.folder)
+        if not assumed.is_ever_true():
+            tally["of these with nothing that counts"] += 1
+            return [] if (out, err, status) == (b"", b"fault C9\n", 1) else [f"never true: {out} {err} {status}"]
         rows = [line.split(",") for line in out.decode().splitlines()]
         if status or rows[0] != ["name", "result", "old", "new"]:
             return [f"status {status}", out.decode(), err.decode()]
         rows = rows[1:]
         counts = Counter(row[1] for row in rows)
         tally.update({word: counts[word] for word in ("same", "differs", "?")})
-        equivalent = err.endswith(b"\nequivalent\n")
+        equivalent = b"\nequivalent\n" in err
         tally["equivalent"] += equivalent
-        line = f"same {counts['same']} differs {counts['differs']} unsettled {counts['?']}\n" + "equivalent\n" * equivalent
+        line = assumed.counts(f"same {counts['same']} differs {counts['differs']} unsettled {counts['?']}", equivalent)
         found = wrong_rows(pair, rows) + ([] if err.decode() == line else [f"counts {err}"])
         same = [row[0].upper() for row in rows if row[1] == "same"]
-        found += contradicted(self.chance, pair, same, self.states)
+        found += contradicted(self.chance, pair, same, self.states, assumed)
         begun = pair.different(Running(pair.old), Running(pair.new))
-        apart = bool(begun) or any(told_apart(self.chance, pair) for _ in range(5))
+        apart = bool(begun) or any(told_apart(self.chance, pair, assumed) for _ in range(5))
         tally["told apart by runs"] += apart
         if equivalent and (apart or counts["differs"] or counts["?"]):
             found.append("no equivalents")
@@ -298,6 +340,8 @@ class Trial:
         found = [f"{path}: {name} isn't shared" for name in disagree(pair, first, second)]
         if moment > int(at) or other > int(at) or any(state.values[key] != value for state in (first, second) for key, value in inputs.items()):
             found.append(f"{path}: {record} isn't of the states")
+        if not self.assumed.holds(inputs):
+            found.append(f"{path}: what is assumed is false")
         for state, side in ((first, "old"), (second, "new")):
             done = run(self.tool, ["sim", "--state", f"{path}.{side}.csv", "--save", "after.csv", side + ".ld", path + ".csv"], self.folder)
             state.scan(inputs, int(at))
@@ -311,26 +355,26 @@ class Trial:
 
     def wrong_reachable(self, pair, same, apart, tally):
         """What is wrong where only states count that runs may reach."""
-        out, err, status = run(self.tool, ["diff", "--reachable", "--save", "reached", "old.ld", "new.ld"], self.folder)
+        out, err, status = run(self.tool, ["diff", "--reachable", "--save", "reached", *self.assumed.words, "old.ld", "new.ld"], self.folder)
         rows = [line.split(",") for line in out.decode().splitlines()][1:]
         if status:
             return [f"--reachable: status {status}", err.decode()]
         tally["same among reachable states alone"] += sum(row[1] == "same" for row in rows) - len(same)
         found = wrong_rows(pair, rows) + self.wrong_witnesses(pair, rows, "reached")
         found += [f"{name} is the same from all states" for name in same if [row[1] for row in rows if row[0].upper() == name and row[1] in ("differs", "?")]]
-        if err.endswith(b"\nequivalent\n"):
+        if b"\nequivalent\n" in err:
             tally["equivalent among reachable states"] += 1
             found += ["no equivalents among reachable states"] if apart else []
         kept = [row[0].upper() for row in rows if row[1] == "same"]
         for _ in range(5):
-            found += contradicted_in_runs(self.chance, pair, kept)
+            found += contradicted_in_runs(self.chance, pair, kept, self.assumed)
         return found + self.wrong_claims(rows)
 
     def wrong_claims(self, rows):
         """Where a saved state isn't as `never` lists it."""
         found = []
         for side in ("old", "new"):
-            never, off, pairs = (run(self.tool, ["never", *option, side + ".ld"], self.folder)[0].decode().splitlines()[1:]
+            never, off, pairs = (run(self.tool, ["never", *option, *self.assumed.words, side + ".ld"], self.folder)[0].decode().splitlines()[1:]
                                  for option in ([], ["--off"], ["--pairs"]))
             names = [{line.split(",")[0].upper() for line in lines} for lines in (never, off)]
             program = Program(self.texts[side])

@@ -6,6 +6,8 @@ those of `diff OLD NEW` but for its verdicts, with none of an edge. No `same` ma
 states, made by `running.py`. Each `differs` must be shown by the two runs that are saved: at the same moments, with the same values of the
 inputs that both have, they leave what the row says, and `sim` makes the same of them. A drawing and itself have no `differs`, and nothing
 differs where the programs are said to be equivalent.
+
+In half of the trials something is assumed of the inputs, as in `judging.py`: then only runs count in each scan of which it is true.
 """
 import argparse
 import concurrent.futures
@@ -17,19 +19,19 @@ import tempfile
 from collections import Counter
 
 from differing import changed
-from judging import Pair, left_by, wrong_rows
+from judging import Assumed, Pair, left_by, wrong_rows
 from model import forget
 from reaching import random_drawing
 from running import Running
 from transcript import run
 
 
-def differing_in_run(chance, pair, names):
+def differing_in_run(chance, pair, names, assumed):
     """Names that a run with random inputs from the fresh states leaves different."""
     first, second, moment, found = Running(pair.old), Running(pair.new), 0, set()
     inputs = sorted({*pair.new.inputs, *pair.old.inputs})
     for _ in range(30):
-        values = {name: chance.random() < 0.5 for name in inputs}
+        values = assumed.inputs(chance, inputs)
         first.scan({name: values[name] for name in pair.old.inputs}, moment)
         second.scan({name: values[name] for name in pair.new.inputs}, moment)
         found |= {name for name in names if left_by(first, name) != left_by(second, name)}
@@ -53,7 +55,7 @@ class Trial:
 
     def answer(self, *options):
         """The rows of an answer, its lines of counts and its status."""
-        out, err, status = run(self.tool, ["diff", *options, "old.ld", "new.ld"], self.folder)
+        out, err, status = run(self.tool, ["diff", *options, *self.assumed.words, "old.ld", "new.ld"], self.folder)
         return [line.split(",") for line in out.decode().splitlines()][1:], err.decode(), status
 
     def differences(self, tally):
@@ -63,19 +65,24 @@ class Trial:
         pair = Pair(self.texts["old"], self.texts["new"])
         if not pair.old.rungs or not pair.new.rungs:
             return None
+        self.assumed = assumed = Assumed(self.chance, pair)
+        tally["with something assumed"] += bool(assumed.expressions)
         rows, err, status = self.answer("--runs", "--states", "1000", "--save", "runs")
+        if not assumed.is_ever_true():
+            tally["of these with nothing that counts"] += 1
+            return [] if (err, status) == ("fault C9\n", 1) else [f"never true: {err} {status}"]
         if status:
             return [f"status {status}", err]
         counts = Counter(row[1] for row in rows)
         tally.update({word: counts[word] for word in ("same", "differs", "?")})
         found = wrong_rows(pair, rows)
-        if err != f"same {counts['same']} differs {counts['differs']} unsettled {counts['?']}\n" or any(row[0].endswith(" edge") for row in rows):
+        if err != assumed.counts(f"same {counts['same']} differs {counts['differs']} unsettled {counts['?']}", False) or any(row[0].endswith(" edge") for row in rows):
             found.append(f"counts {err}, or an edge")
-        if counts["differs"] and (self.texts["old"] == self.texts["new"] or self.answer()[1].endswith("\nequivalent\n")):
+        if counts["differs"] and (self.texts["old"] == self.texts["new"] or "\nequivalent\n" in self.answer()[1]):
             found.append("equivalent programs differ")
         same = [row[0].upper() for row in rows if row[1] == "same"]
         for _ in range(self.runs):
-            found += [f"{name} is no same" for name in differing_in_run(self.chance, pair, same)]
+            found += [f"{name} is no same" for name in differing_in_run(self.chance, pair, same, self.assumed)]
         return found + self.wrong_runs(pair, [row for row in rows if row[1] == "differs"])
 
     def wrong_runs(self, pair, rows):
@@ -83,7 +90,7 @@ class Trial:
         found, sides = [], {"old": pair.old, "new": pair.new}
         for name, _, *ends in rows:
             left, scans = zip(*(self.left_by_run(program, f"runs/{name}.{side}.run.csv", name) for side, program in sides.items()))
-            if list(left) != ends or ends[0] == ends[1] or self.are_apart(pair, *scans):
+            if list(left) != ends or ends[0] == ends[1] or self.are_apart(pair, *scans) or not all(self.assumed.holds(given) for _, given in scans[0]):
                 found.append(f"{name}: the runs leave {left}, not {ends}")
             found += [f"{name}: {side} isn't read" for side in sides
                       if run(self.tool, ["sim", side + ".ld", f"runs/{name}.{side}.run.csv"], self.folder)[2]]
