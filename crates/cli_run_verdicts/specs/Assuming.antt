@@ -1,6 +1,6 @@
 -- What is assumed of the inputs of two programs that are judged over runs, and what is counted then.
-use Rattle.std.specs.Prelude.{ℕ, false, List, zero}
-use Rattle.diff_findings.specs.Findings.{tally_of}
+use Rattle.std.specs.Prelude.{ℕ, false, List, None, zero}
+use Rattle.diff_findings.specs.Tally.{tally_of}
 use Rattle.diff_findings.specs.declared.finding.Finding.{Finding}
 use Rattle.diff_runs.specs.Assuming.{Assumptions, assumptions}
 use Rattle.diff_runs.specs.Assuming as runs
@@ -22,5 +22,5 @@ assumption a = record { both = assumptions a.assumed; expressions = a.expression
 
 -- what is counted of findings; the counts tell how many expressions there are, where there are any
 abbrev pub run_counts : (expressions : ℕ) → List Finding → ListCounts
-run_counts zero list = verdict_counts list false
+run_counts zero list = verdict_counts None list false
 run_counts n list = counts.AssumedVerdicts (tally_of list).same (tally_of list).differs (tally_of list).unsettled false n
