@@ -1,5 +1,5 @@
 -- What is found, written whole or in part.
-use Rattle.std.proofs.Common.{◌≡◌, ◌∙◌, Err, IfErr, IfOk, List, Ok, Result, ℕ, ap, inl, inr, refl, subst}
+use Rattle.std.proofs.Common.{◌≡◌, ◌∙◌, Err, IfErr, IfOk, List, Ok, Option, Result, ℕ, ap, inl, inr, refl, subst}
 use Rattle.diagram_program.specs.Program.{Drawing}
 use Rattle.diff_matching.specs.Matching.{Matching}
 use Rattle.diff_matching.specs.Names.{IsByNames}
@@ -16,7 +16,7 @@ use Rattle.cli_questions.specs.declared.counting.ListCounts.{ListCounts}
 use Rattle.cli_run_verdicts.specs.Assuming.{RunsAssumption, run_counts}
 use Rattle.cli_run_verdicts.specs.Ending.{FailsToWriteRuns, WritesKeeping, WritesTold}
 
-module _ (expressions : ℕ) (p q : Drawing) (m : Matching) (v : Verdicts) (list : List Finding) (o o' : WriteLog) (same : list ≡ findings p q m v) where
+module _ (expressions : Option ℕ) (p q : Drawing) (m : Matching) (v : Verdicts) (list : List Finding) (o o' : WriteLog) (same : list ≡ findings p q m v) where
   pub listed : (n : ListCounts) → n ≡ run_counts expressions list → PutsAll o o' (findings_text p q list) → WritesTold expressions p q m v o o' (Ok n)
   listed n counted put = (
     subst (λ (l : List Finding). PutsAll o o' (findings_text p q l)) same put,

@@ -2,6 +2,7 @@
 use Rattle.std.specs.Prelude.{◌≡◌, ◌⊎◌, ℕ, List, Option, None, Some, IfSome, Result, Ok, Err}
 use Rattle.diagram_program.specs.Program.{Drawing}
 use Rattle.diagram_reader.specs.Titled.{HasProgram}
+use Rattle.search_differences.specs.declared.side.Side.{Side}
 use Rattle.diff_matching.specs.Matching.{Matching}
 use Rattle.diff_matching.specs.Names.{IsByNames}
 use Rattle.diff_meaning.specs.declared.verdict.Verdicts.{Verdicts}
@@ -18,9 +19,12 @@ use Rattle.cli_inputs.specs.Reports.{Logs}
 use Rattle.cli_inputs.specs.Setting.{Given}
 use Rattle.cli_questions.specs.Ending.{BreaksOff, Ends, Listing}
 use Rattle.cli_questions.specs.declared.counting.ListCounts.{ListCounts}
+use Rattle.cli_assumed_both.specs.Together.{HasAssumedFault, IsAssumedWhere}
+use Rattle.cli_diff.specs.Assumed.{Assumption}
+use Rattle.cli_diff.specs.AssumedEnding.{Assumes}
 use Rattle.cli_diff.specs.Ending.{RefusesOf}
 use Rattle.cli_verdicts.specs.Ending.{HasTextFault}
-use Rattle.cli_run_verdicts.specs.Assuming.{RunsAssumption, nothing, run_counts}
+use Rattle.cli_run_verdicts.specs.Assuming.{RunsAssumption, in_runs, nothing, run_counts}
 use Rattle.cli_run_verdicts.specs.Judged.{JudgedInRuns}
 
 -- The text of what is found of two programs in runs, and what is counted of it: by what belongs together by names, and verdicts each of which is
@@ -37,61 +41,69 @@ pub record FindsInRunsAssuming (a : RunsAssumption) (p q : Drawing) (text : List
 abbrev pub FindsKeepingAssuming : RunsAssumption → Drawing → Drawing → Matching → RunFindings → Listing
 FindsKeepingAssuming a p q m found text c = (f : FindsInRunsAssuming a p q text c) × (f.matching ≡ m) × AreFoundAssuming a.both m p q found × AreToldOf found f.verdicts
 
--- The texts describe the two programs.
-abbrev pub JudgesRunsAssuming : RunsAssumption → Given → Given → Listing
-JudgesRunsAssuming a g h text c = (p q : Drawing) × HasProgram g.aliases g.program p × HasProgram h.aliases h.program q × FindsInRunsAssuming a p q text c
-
--- Status 0: what was found was written, and then the line of counts.
-abbrev pub CountsRunsAssuming : RunsAssumption → Given → Given → DiffRunsRequest → WriteLog → WriteLog → (List ℕ → Type 0) → Type 0
-CountsRunsAssuming a g h r = Ends (JudgesRunsAssuming a g h) r.quiet
-
--- Status 1, by a writer that failed.
-abbrev pub BreaksRunsAssuming : RunsAssumption → Given → Given → DiffRunsRequest → Logs → Logs → Type 0
-BreaksRunsAssuming a g h r = BreaksOff g (JudgesRunsAssuming a g h) r.quiet
-
--- Status 1: a fault of the texts, or a writer that failed.
-abbrev pub FailsToJudgeRunsAssuming : RunsAssumption → Given → Given → DiffRunsRequest → Logs → Logs → Type 0
-FailsToJudgeRunsAssuming a g h r old new = RefusesOf g h (HasTextFault g h) old new ⊎ BreaksRunsAssuming a g h r old new
-
--- ---- where nothing is assumed
-
+-- where nothing is assumed
 abbrev pub FindsInRuns : Drawing → Drawing → Listing
 FindsInRuns = FindsInRunsAssuming nothing
 
 abbrev pub FindsKeeping : Drawing → Drawing → Matching → RunFindings → Listing
 FindsKeeping = FindsKeepingAssuming nothing
 
-abbrev pub JudgesRuns : Given → Given → Listing
-JudgesRuns = JudgesRunsAssuming nothing
+-- ---- what a request assumes
 
+abbrev pub assumes_of : DiffRunsRequest → Assumes
+assumes_of r = record { expressions = r.assumed.items; takes_comments = r.takes_comments }
+
+-- This is found of two programs in runs in which what the request assumes of their inputs is true, if it assumes something.
+pub record FindsAsked (g h : Given) (r : DiffRunsRequest) (p q : Drawing) (text : List ℕ) (c : Option ListCounts) : Type 0 where
+  pub assumption : Option Assumption
+  pub assumed : IsAssumedWhere g h (assumes_of r) p q assumption
+  pub found : FindsInRunsAssuming (in_runs assumption) p q text c
+
+-- The same, by what is kept.
+pub record FindsKeepingAsked (g h : Given) (r : DiffRunsRequest) (p q : Drawing) (m : Matching) (found : RunFindings) (text : List ℕ) (c : Option ListCounts)
+    : Type 0 where
+  pub assumption : Option Assumption
+  pub assumed : IsAssumedWhere g h (assumes_of r) p q assumption
+  pub kept : FindsKeepingAssuming (in_runs assumption) p q m found text c
+
+-- ---- how the judging ends
+
+-- The texts describe the two programs.
+abbrev pub JudgesRuns : Given → Given → DiffRunsRequest → Listing
+JudgesRuns g h r text c = (p q : Drawing) × HasProgram g.aliases g.program p × HasProgram h.aliases h.program q × FindsAsked g h r p q text c
+
+-- Status 0: what was found was written, and then the line of counts.
 abbrev pub CountsRuns : Given → Given → DiffRunsRequest → WriteLog → WriteLog → (List ℕ → Type 0) → Type 0
-CountsRuns = CountsRunsAssuming nothing
+CountsRuns g h r = Ends (JudgesRuns g h r) r.quiet
 
+-- Status 1, by a writer that failed.
 abbrev pub BreaksRuns : Given → Given → DiffRunsRequest → Logs → Logs → Type 0
-BreaksRuns = BreaksRunsAssuming nothing
+BreaksRuns g h r = BreaksOff g (JudgesRuns g h r) r.quiet
 
+-- A fault of the texts; or, where they describe two programs, of what is assumed of their inputs.
+abbrev pub HasRunsFault : Given → Given → DiffRunsRequest → Option Side → ToolFault → Type 0
+HasRunsFault g h r side f = HasTextFault g h side f
+    ⊎ ((p q : Drawing) × HasProgram g.aliases g.program p × HasProgram h.aliases h.program q × HasAssumedFault side g h (assumes_of r) p q f)
+
+-- Status 1: such a fault, or a writer that failed.
 abbrev pub FailsToJudgeRuns : Given → Given → DiffRunsRequest → Logs → Logs → Type 0
-FailsToJudgeRuns = FailsToJudgeRunsAssuming nothing
+FailsToJudgeRuns g h r old new = RefusesOf g h (HasRunsFault g h r) old new ⊎ BreaksRuns g h r old new
 
 -- ---- what is kept
 
 -- The programs are those that the texts describe, and the text is what is found of them, by what is kept.
-abbrev pub JudgesKeepingAssuming : RunsAssumption → Given → Given → JudgedInRuns → Listing
-JudgesKeepingAssuming a g h j text c = HasProgram g.aliases g.program j.old × HasProgram h.aliases h.program j.new
-    × FindsKeepingAssuming a j.old j.new j.matching j.found text c
+abbrev pub JudgesKeeping : Given → Given → DiffRunsRequest → JudgedInRuns → Listing
+JudgesKeeping g h r j text c = HasProgram g.aliases g.program j.old × HasProgram h.aliases h.program j.new
+    × FindsKeepingAsked g h r j.old j.new j.matching j.found text c
 
 -- What was found was written, and then the line of counts, and the findings are kept.
-abbrev pub KeepsRunsAssuming : RunsAssumption → Given → Given → DiffRunsRequest → JudgedInRuns → WriteLog → WriteLog → (List ℕ → Type 0) → Type 0
-KeepsRunsAssuming a g h r j = Ends (JudgesKeepingAssuming a g h j) r.quiet
-
--- where nothing is assumed
 abbrev pub KeepsRuns : Given → Given → DiffRunsRequest → JudgedInRuns → WriteLog → WriteLog → (List ℕ → Type 0) → Type 0
-KeepsRuns = KeepsRunsAssuming nothing
+KeepsRuns g h r j = Ends (JudgesKeeping g h r j) r.quiet
 
 -- ---- private to the judging
 
 -- What is found by these verdicts is written, whole or as far as the writer took it; or memory ran out, and nothing was written.
-abbrev pub WritesTold : (expressions : ℕ) → Drawing → Drawing → Matching → Verdicts → WriteLog → WriteLog → Result ListCounts ToolFault → Type 0
+abbrev pub WritesTold : (expressions : Option ℕ) → Drawing → Drawing → Matching → Verdicts → WriteLog → WriteLog → Result ListCounts ToolFault → Type 0
 WritesTold expressions p q m v out out' (Ok n) = PutsAll out out' (findings_text p q (findings p q m v)) × (n ≡ run_counts expressions (findings p q m v))
 WritesTold expressions p q m v out out' (Err f) = ((f ≡ fault.Memory) × (out' ≡ out)) ⊎ ((f ≡ fault.Write) × PutsPrefix out out' (findings_text p q (findings p q m v)))
 
@@ -102,3 +114,7 @@ FailsToWriteRuns a p q out out' f = ((f ≡ fault.Memory) × (out' ≡ out))
 
 abbrev pub WritesKeeping : RunsAssumption → Drawing → Drawing → Matching → RunFindings → WriteLog → WriteLog → ListCounts → Type 0
 WritesKeeping a p q m found out out' n = (text : List ℕ) × FindsKeepingAssuming a p q m found text (Some n) × PutsAll out out' text
+
+-- Status 1, of two programs that were read: memory ran out, or a writer failed.
+abbrev pub FailsToFindRuns : RunsAssumption → Given → Given → DiffRunsRequest → Drawing → Drawing → Logs → Logs → Type 0
+FailsToFindRuns a g h r p q old new = RefusesOf g h (HasTextFault g h) old new ⊎ BreaksOff g (FindsInRunsAssuming a p q) r.quiet old new

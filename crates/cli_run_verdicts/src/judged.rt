@@ -7,8 +7,7 @@ ghost use Rattle.cli_inputs.specs.Setting.{given_by};
 ghost use Rattle.cli_run_verdicts.specs.Ending.{CountsRuns, FailsToJudgeRuns, KeepsRuns};
 ghost use Rattle.cli_run_verdicts.specs.Judged.{all_found, found_at, shown_at};
 
-use crate::assuming::nothing;
-use crate::judging::judge_programs;
+use crate::judging::judge_read;
 use crate::writing::Kept;
 use cli_arguments::DiffRunsRequest;
 use cli_diff::DiffTexts;
@@ -109,7 +108,8 @@ impl RunsJudged {
 
 /// Judges two programs over runs from their fresh states: writes on `out` what is found of them, name by name, and on `err` the line of counts, and
 /// keeps the runs that show each difference. A name is the same where no runs ever leave it different, whatever the inputs and the moments, and it
-/// differs where some do, with what the last of their scans leaves.
+/// differs where some do, with what the last of their scans leaves. Where the request assumes something of the inputs, only runs count in each scan of
+/// which it is true in both programs.
 ///
 /// # Errors
 ///
@@ -132,7 +132,7 @@ pub fn judge_runs<O: Sink, E: Sink>(
         Ok(programs) => programs,
         Err(status) => return Err(status),
     };
-    match judge_programs(alloc, request, texts, &programs, nothing(), out, err) {
+    match judge_read(alloc, request, texts, &programs, out, err) {
         Ok(kept) => Ok(RunsJudged {
             programs,
             kept,

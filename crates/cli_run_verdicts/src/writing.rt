@@ -43,8 +43,8 @@ pub(crate) struct Written {
     pub kept: Kept,
 }
 
-/// What is counted of findings, where so many expressions are assumed.
-fn counts_of(expressions: u64, list: &[Finding]) -> ListCounts
+/// What is counted of findings, and how many expressions are assumed, where some are.
+fn counts_of(expressions: Option<u64>, list: &[Finding]) -> ListCounts
     ensures { result ≡ run_counts expressions list.now }
 {
     let tally = count_verdicts(list);
@@ -53,13 +53,13 @@ fn counts_of(expressions: u64, list: &[Finding]) -> ListCounts
     let unsettled = tally.unsettled as u64;
     let is_equivalent = false;
     match expressions {
-        0 => ListCounts::Verdicts {
+        None => ListCounts::Verdicts {
             same,
             differs,
             unsettled,
             is_equivalent,
         },
-        assumed => ListCounts::AssumedVerdicts {
+        Some(assumed) => ListCounts::AssumedVerdicts {
             same,
             differs,
             unsettled,
@@ -71,7 +71,7 @@ fn counts_of(expressions: u64, list: &[Finding]) -> ListCounts
 
 /// Writes findings, and counts them.
 fn write_list<O: Sink>(
-    expressions: u64,
+    expressions: Option<u64>,
     compared: Compared<'_>,
     list: &[Finding],
     out: &mut O,
@@ -88,7 +88,7 @@ fn write_list<O: Sink>(
 /// Writes what is found of two programs by verdicts.
 fn write_compared<O: Sink>(
     alloc: Global,
-    expressions: u64,
+    expressions: Option<u64>,
     compared: Compared<'_>,
     out: &mut O,
 ) -> Result<ListCounts, ToolFault>
@@ -110,7 +110,7 @@ fn write_told<O: Sink>(
     new: &Program,
     matching: &Matching,
     verdicts: &Verdicts,
-    expressions: u64,
+    expressions: Option<u64>,
     out: &mut O,
 ) -> Result<ListCounts, ToolFault>
     ensures { WritesTold expressions old.now new.now matching.now verdicts.now (O.log out.old) (O.log out.new) result }

@@ -10,10 +10,8 @@ returns-in-Ok-clause-done g c =
 
 pub returns-in-Ok-clause-failed : goal.returns-in-Ok-clause-failed
 returns-in-Ok-clause-failed g c = λ save.
-    uncounted_in (assumption c.args.assuming) (given_by c.args.texts.now.old) (given_by c.args.texts.now.new) c.args.request.now c.args.programs.now.old c.args.programs.now.new
-    c.requires.old c.requires.new c.in-Ok.written save _ _ _ _ c.put_written.result c.in-Ok.ensures.done c.put_written.ensures.failed
+    uncounted_in (assumption c.args.assuming) (given_by c.args.texts.now.old) (given_by c.args.texts.now.new) c.args.request.now c.args.programs.now.old c.args.programs.now.new c.in-Ok.written save _ _ _ _ c.put_written.result c.in-Ok.ensures.done c.put_written.ensures.failed
 
 pub returns-in-Err-clause-failed : goal.returns-in-Err-clause-failed
 returns-in-Err-clause-failed g c = λ save.
-    broken (assumption c.args.assuming) (given_by c.args.texts.now.old) (given_by c.args.texts.now.new) c.args.request.now c.args.programs.now.old c.args.programs.now.new
-    c.requires.old c.requires.new c.in-Err.fault save _ _ _ _ c.in-Err.ensures.failed c.report.ensures.line
+    broken (assumption c.args.assuming) (given_by c.args.texts.now.old) (given_by c.args.texts.now.new) c.args.request.now c.args.programs.now.old c.args.programs.now.new c.in-Err.fault save _ _ _ _ c.in-Err.ensures.failed c.report.ensures.line
