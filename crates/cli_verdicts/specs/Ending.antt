@@ -35,9 +35,11 @@ use Rattle.cli_diff.specs.Ending.{RefusesOf}
 use Rattle.cli_verdicts.specs.declared.assuming.AssumedOfBoth.{AssumedOfBoth}
 use Rattle.cli_verdicts.specs.declared.writing.Wanted.{Wanted}
 
--- what is counted of findings
+-- what is counted of findings: how many expressions are assumed too, where something is
 abbrev pub verdict_counts : Option Assumption → List Finding → Bool → ListCounts
-verdict_counts a list is_equivalent = counts.Verdicts (tally_of list).same (tally_of list).differs (tally_of list).unsettled is_equivalent
+verdict_counts None list is_equivalent = counts.Verdicts (tally_of list).same (tally_of list).differs (tally_of list).unsettled is_equivalent
+verdict_counts (Some a) list is_equivalent =
+    counts.AssumedVerdicts (tally_of list).same (tally_of list).differs (tally_of list).unsettled is_equivalent a.expressions
 
 -- what is assumed of the inputs of both programs, where something is: an expression over those of each, in order of declaration
 abbrev pub assumed_in : Option Assumption → Drawing → Drawing → BothAssumed
