@@ -1,6 +1,6 @@
 //! Whether what is assumed may be true of the inputs of both programs.
 
-ghost use Rattle.std.specs.Prelude.{◌≡◌, ◌⊎◌, IfErr, IfOk, option_map};
+ghost use Rattle.std.specs.Prelude.{◌≡◌, ◌⊎◌, IfErr, IfOk, false, true};
 ghost use Rattle.cli_inputs.specs.declared.fault.ToolFault.TheVariants.{Memory, NeverTrue};
 ghost use Rattle.invariant_sets.specs.Invariants.{input_numbers};
 ghost use Rattle.diff_matching.specs.Names.{IsByNames};
@@ -17,6 +17,7 @@ use invariant_cases::Assumption;
 use std::alloc::{AllocError, Global};
 
 /// The numbers of the variables that are inputs of a program, in order of declaration.
+#[tactic(auto, using(crate::proofs::Inputs::numbers_of))]
 fn inputs_of(alloc: Global, program: &Program) -> Result<Vec<usize>, AllocError>
     ensures { IfOk result (λ v. v.items ≡ input_numbers program.now) }
 {

@@ -22,7 +22,7 @@ use cli_arguments::{
 use cli_diff::{DiffTexts, Manner, compare, compare_files, read_texts as read_diff_texts};
 use cli_inputs::{Texts, ToolFault, write_fault};
 use cli_options::{codes, page_of};
-use cli_verdicts::judge_files;
+use cli_verdicts::{judge, judge_files};
 use io_text::{CountedWriter, Sink, WriteFault, put};
 use std::alloc::{AllocError, Global};
 use std::fs::{self, File};
@@ -300,6 +300,9 @@ fn compare_on(rt: &HostRuntime, alloc: Global, request: &DiffRequest, texts: &Di
 fn run_verdicts(rt: &HostRuntime, alloc: Global, request: &VerdictRequest) -> u8
     ensures { result ≤ 2 }
 {
+    if !request.assumed.is_empty() {
+        return run_verdicts_assuming(rt, alloc, request);
+    }
     let opening = Opening::new(rt);
     let mut readers = two_readers_of(&opening, request.old.as_str(), request.new.as_str());
     let standard = Standard::new(rt);
@@ -312,6 +315,47 @@ fn run_verdicts(rt: &HostRuntime, alloc: Global, request: &VerdictRequest) -> u8
     drop(readers);
     opening.explain(request.why);
     drop(opening);
+    status
+}
+
+/// Judges two programs with what is assumed, and warns of what is always true.
+fn run_verdicts_assuming(rt: &HostRuntime, alloc: Global, request: &VerdictRequest) -> u8
+    ensures { result ≤ 2 }
+{
+    let manner = Manner {
+        why: request.why,
+        aliases: request.aliases,
+    };
+    let opening = Opening::new(rt);
+    let mut readers = two_readers_of(&opening, request.old.as_str(), request.new.as_str());
+    let read = read_diff_texts(alloc, manner, &mut readers);
+    drop(readers);
+    let status = match read {
+        Ok(texts) => {
+            let status = judge_on(rt, alloc, request, &texts);
+            drop(texts);
+            status
+        }
+        Err(fault) => refuse_text(rt, request.why, &fault),
+    };
+    opening.explain(request.why);
+    drop(opening);
+    status
+}
+
+/// Judges the programs of these texts over the standard streams, and warns of what is always true.
+fn judge_on(rt: &HostRuntime, alloc: Global, request: &VerdictRequest, texts: &DiffTexts) -> u8
+    ensures { result ≤ 1 }
+{
+    let (quiet, assumed) = (request.quiet, request.assumed.as_slice());
+    let standard = Standard::new(rt);
+    let mut out = standard.out();
+    let mut err = standard.err();
+    let status = judge(alloc, request, texts, &mut out, &mut err);
+    let status = warn_of_both(alloc, status, quiet, assumed, texts, &mut err);
+    drop(err);
+    drop(out);
+    drop(standard);
     status
 }
 

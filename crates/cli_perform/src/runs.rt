@@ -5,6 +5,7 @@ ghost use Rattle.std.specs.Prelude.{◌≤◌};
 use crate::difference_folder::DifferenceFolder;
 use crate::stream::Standard;
 use crate::two_texts::{refuse_text, texts_of};
+use crate::warning::warn_of_judged;
 use cli_arguments::DiffRunsRequest;
 use cli_diff::{DiffTexts, Manner};
 use cli_inputs::ToolFault;
@@ -121,7 +122,9 @@ pub(crate) fn run_runs(rt: &HostRuntime, alloc: Global, request: &DiffRunsReques
                 0
             };
             if status == 0 {
+                let (quiet, assumed) = (request.quiet, request.assumed.as_slice());
                 status = judge(folder, request, &texts);
+                status = warn_of_judged(rt, alloc, status, quiet, assumed, &texts);
             }
             drop(texts);
             status

@@ -6,7 +6,7 @@ use cli_arguments::{ListRequest, Request};
 use cli_assumed::warn_always;
 use cli_diff::DiffTexts;
 use cli_inputs::Texts;
-use io_text::Sink;
+use io_text::{CountedWriter, Sink};
 use std::alloc::Global;
 
 /// The expressions that a request for a list assumes, unless it is to be quiet.
@@ -75,4 +75,20 @@ pub(crate) fn warn_of_both<E: Sink>(
 {
     let expressions = unless_quiet(quiet, expressions);
     warn_of(alloc, status, expressions, &texts.old, err)
+}
+
+/// The same of two programs that were judged, over the standard streams.
+pub(crate) fn warn_of_judged(
+    rt: &HostRuntime,
+    alloc: Global,
+    status: u8,
+    quiet: bool,
+    expressions: &[String],
+    texts: &DiffTexts,
+) -> u8
+    requires { status ≤ 1 }
+    ensures { result ≤ 1 }
+{
+    let mut err = CountedWriter::new(rt.stderr());
+    warn_of_both(alloc, status, quiet, expressions, texts, &mut err)
 }

@@ -5,6 +5,7 @@ ghost use Rattle.std.specs.Prelude.{◌≤◌};
 use crate::difference_folder::DifferenceFolder;
 use crate::stream::Standard;
 use crate::two_texts::{refuse_text, texts_of};
+use crate::warning::warn_of_judged;
 use cli_arguments::VerdictRequest;
 use cli_diff::{DiffTexts, Manner};
 use cli_inputs::ToolFault;
@@ -136,7 +137,9 @@ pub(crate) fn run_witnesses(
         Ok(texts) => {
             let mut status = witnesses.folder.prepare();
             if status == 0 {
+                let (quiet, assumed) = (request.quiet, request.assumed.as_slice());
                 status = witnesses.judge(&texts);
+                status = warn_of_judged(rt, alloc, status, quiet, assumed, &texts);
             }
             drop(texts);
             status

@@ -1,10 +1,11 @@
 -- How a list of what some state, or every one, switches on ends.
 use Rattle.std.proofs.Common.{◌≡◌, ◌≢◌, ◌∙◌, ◌⊎◌, ◌^◌, ℕ, zero, suc, Bool, true, false, List, None, Option, Some, Result, Ok, Err, ap, inl, inr, length, refl, subst, sym}
-use Rattle.std.specs.Prelude.{IfSome, count_by, not}
+use Rattle.std.specs.Prelude.{IfOk, IfSome}
 use Rattle.diagram_program.specs.Program.{Drawing}
 use Rattle.causes_query.specs.Causes.{Question}
 use Rattle.causes_query.specs.Refusal.{refusal}
 use Rattle.causes_any_state.specs.Possible.{AreRowsBy, AreStatesOf, MayBeOf, PossibleCursor}
+use Rattle.invariant_runs.specs.Staying.{IsStayingOf}
 use Rattle.invariant_sets.specs.declared.staying.Staying.{Staying}
 use Rattle.scan_cycle.specs.Standing.{Standing}
 use Rattle.causes_any_state.specs.declared.possible.PossibleCause.{PossibleCause}
@@ -18,7 +19,6 @@ use Rattle.st_expression.specs.declared.expression.Expression.{Expression}
 use Rattle.io_text.specs.Log.{WriteLog}
 use Rattle.cli_inputs.specs.Reports.{HasCauseFault}
 use Rattle.cli_inputs.specs.declared.fault.ToolFault.{ToolFault}
-use Rattle.cli_inputs.specs.declared.fault.ToolFault.TheVariants as fault
 use Rattle.cli_inputs.specs.Setting.{Given}
 use Rattle.cli_arguments.specs.declared.request.PossibleRequest.{PossibleRequest}
 use Rattle.cli_arguments.specs.declared.request.RunsWanted.{RunsWanted}
@@ -27,26 +27,42 @@ use Rattle.cli_questions.specs.declared.counting.ListCounts.TheVariants as count
 use Rattle.cli_states.specs.Query.{AsksFor, at_stored}
 use Rattle.cli_questions.specs.Ending.{IsNamed, Listing}
 use Rattle.cli_questions.specs.Query.{Writes}
-use Rattle.cli_states.specs.AnyState.{AnyStateBy, AnyStateRefusal, AssumedPossibleBy, AssumedPossibleRefusal, IsStayingBy, PossibleBy, PossibleListBy, PossibleRowsBy, counted, possible_counts, possible_group_counts, possible_refusal_by}
+use Rattle.cli_states.specs.AnyState.{AnyStateBy, AnyStateRefusal, IsSettledBy, IsStayingBy, PossibleListBy, PossibleRowsBy, ReachedListBy, counted, possible_counts, possible_group_counts, possible_refusal_by, row_counts}
+
+-- What is so of a value in a result, by each of three.
+pub ok_each : {A F : Type 0} (w : Result A F) (P Q R : A → Type 0) → IfOk w P → IfOk w Q → IfOk w R → IfOk w (λ x. P x × Q x × R x)
+ok_each (Ok x) P Q R p q r = (p, q, r)
+ok_each (Err e) P Q R p q r = tt
 
 -- What stays so is said of the program's own names.
 of_program : (p : Drawing) (off : Bool) (staying : Option Staying) → MayBeOf p staying → AreStatesOf p (counted off staying)
 of_program p true staying of = of
 of_program p false staying of = of
 
-pub states_of : (b off : Bool) (p : Drawing) (s : Standing) (staying : Option Staying) → IsStayingBy b p s staying → AreStatesOf p (counted off staying)
-states_of false off p s staying none = of_program p off staying (subst (λ (x : Option Staying). MayBeOf p x) (sym none) tt)
-states_of true off p s staying (known, same, is, reached, told) =
-    of_program p off staying (subst (λ (x : Option Staying). MayBeOf p x) (sym same) (record { set = is.steady.set; apart = is.apart.outside }))
+known_of : (assumed : Option Expression) (p : Drawing) (s : Standing) (known : Staying) → IsSettledBy assumed p s known → IsStayingOf p known
+known_of None p s known settled = record { set = settled.0.steady.set; apart = settled.0.apart.outside }
+known_of (Some e) p s known settled = record { set = settled.0.steady.set; apart = settled.0.apart.outside }
+
+pub states_of : (b off : Bool) (assumed : Option Expression) (p : Drawing) (s : Standing) (staying : Option Staying) → IsStayingBy b assumed p s staying
+    → AreStatesOf p (counted off staying)
+states_of false off assumed p s staying none = of_program p off staying (subst (λ (x : Option Staying). MayBeOf p x) (sym none) tt)
+states_of true off assumed p s staying (known, same, settled) =
+    of_program p off staying (subst (λ (x : Option Staying). MayBeOf p x) (sym same) (known_of assumed p s known settled))
 
 pub asked_of_all : (g : Given) (coil : List ℕ) (all : Bool) (inputs : List (List ℕ)) (q : Question) → IsNamed g coil None all inputs q → IsNamed g coil None all inputs (at_stored q)
 asked_of_all g coil all inputs q h = (record { set = h.0.set; at = refl; on = h.0.on }, h.1)
 
 -- ---- what is counted
 
-pub counts_some : (n : ℕ) (rows : List PossibleCause) → n ≢ 0 → possible_counts n rows ≡ counts.AssumedPossible (length rows) (count_by (λ row. not row.is_settled) rows) n
-counts_some zero rows some = absurd (some refl)
-counts_some (suc n) rows some = refl
+pub counts_some : (n rows unsettled : ℕ) → n ≢ 0 → row_counts n rows unsettled ≡ counts.AssumedPossible rows unsettled n
+counts_some zero rows unsettled some = absurd (some refl)
+counts_some (suc n) rows unsettled some = refl
+
+-- what is counted of as many rows, as many of which aren't settled
+pub same_counts : (expressions rows rows' unsettled unsettled' : ℕ) (n : ListCounts) → n ≡ row_counts expressions rows unsettled → rows ≡ rows' → unsettled ≡ unsettled'
+    → n ≡ row_counts expressions rows' unsettled'
+same_counts expressions rows rows' unsettled unsettled' n is many few =
+    is ∙ ap (λ (k : ℕ). row_counts expressions k unsettled) many ∙ ap (λ (k : ℕ). row_counts expressions rows' k) few
 
 pub group_counts_some : (n k : ℕ) (groups : List ClassGroup) → n ≢ 0
     → possible_group_counts n k groups ≡ counts.AssumedPossibleGroups (length groups) (numbers_in k groups) (unsettled_in k groups) n
@@ -107,38 +123,21 @@ writes_as Is Js Refused Refuses o o' (Err f) is refuses (inl h) = inl (refuses f
 writes_as Is Js Refused Refuses o o' (Err f) is refuses (inr h) = inr (h.0, (h.1.0, is h.1.0 None h.1.1, h.1.2))
 
 module _ (r : PossibleRequest) (q : Question) (o o' : WriteLog) (w : Result ListCounts ToolFault) where
-  -- in groups, or not
-  pub written_either : (assumed : Option Expression) (n : ℕ) (grouped b : Bool) → grouped ≡ b
-      → Writes (PossibleRowsBy b assumed n r q) (HasCauseFault (possible_refusal_by None b q)) o o' w
-      → Writes (PossibleRowsBy grouped assumed n r q) (HasCauseFault (possible_refusal_by None grouped q)) o o' w
-  written_either assumed n grouped b is h = subst (λ (x : Bool). Writes (PossibleRowsBy x assumed n r q) (HasCauseFault (possible_refusal_by None x q)) o o' w) (sym is) h
-
-  rows_plain : (grouped : Bool) (text : List ℕ) (c : Option ListCounts) → PossibleRowsBy grouped None 0 r q text c → PossibleBy None grouped r q text c
-  rows_plain true text c h = h
-  rows_plain false text c h = h
-
   -- of the runs, or not
-  pub written_plain : (asked : Option RunsWanted) (grouped : Bool) → asked ≡ None
-      → Writes (PossibleRowsBy grouped None 0 r q) (HasCauseFault (possible_refusal_by None grouped q)) o o' w
-      → Writes (PossibleBy asked grouped r q) (HasCauseFault (possible_refusal_by asked grouped q)) o o' w
-  written_plain asked grouped which h =
-      subst (λ (x : Option RunsWanted). Writes (PossibleBy x grouped r q) (HasCauseFault (possible_refusal_by x grouped q)) o o' w) (sym which)
-      (writes_as _ (PossibleBy None grouped r q) (HasCauseFault (possible_refusal_by None grouped q)) _ o o' w (rows_plain grouped) (λ f e. e) h)
+  pub written_runs : (assumed : Option Expression) (n : ℕ) (asked : Option RunsWanted) (runs : RunsWanted) (grouped : Bool) → asked ≡ Some runs
+      → Writes (ReachedListBy assumed n r q) (HasCauseFault (refusal q None)) o o' w
+      → Writes (PossibleRowsBy asked grouped assumed n r q) (HasCauseFault (possible_refusal_by asked grouped q)) o o' w
+  written_runs assumed n asked runs grouped which h =
+      subst (λ (x : Option RunsWanted). Writes (PossibleRowsBy x grouped assumed n r q) (HasCauseFault (possible_refusal_by x grouped q)) o o' w) (sym which) h
 
-  pub written_runs : (asked : Option RunsWanted) (runs : RunsWanted) (grouped : Bool) → asked ≡ Some runs
-      → Writes (PossibleBy (Some runs) grouped r q) (HasCauseFault (possible_refusal_by (Some runs) grouped q)) o o' w
-      → Writes (PossibleBy asked grouped r q) (HasCauseFault (possible_refusal_by asked grouped q)) o o' w
-  written_runs asked runs grouped which h =
-      subst (λ (x : Option RunsWanted). Writes (PossibleBy x grouped r q) (HasCauseFault (possible_refusal_by x grouped q)) o o' w) (sym which) h
+  -- in groups, or not
+  pub written_either : (assumed : Option Expression) (n : ℕ) (asked : Option RunsWanted) (grouped b : Bool) → asked ≡ None → grouped ≡ b
+      → Writes (PossibleRowsBy None b assumed n r q) (HasCauseFault (possible_refusal_by None b q)) o o' w
+      → Writes (PossibleRowsBy asked grouped assumed n r q) (HasCauseFault (possible_refusal_by asked grouped q)) o o' w
+  written_either assumed n asked grouped b which is h =
+      subst (λ (x : Option RunsWanted). Writes (PossibleRowsBy x grouped assumed n r q) (HasCauseFault (possible_refusal_by x grouped q)) o o' w) (sym which)
+      (subst (λ (x : Bool). Writes (PossibleRowsBy None x assumed n r q) (HasCauseFault (possible_refusal_by None x q)) o o' w) (sym is) h)
 
   -- by what is assumed, or nothing is
   pub written_by : (nothing b : Bool) → nothing ≡ b → Writes (AnyStateBy b r q) (AnyStateRefusal b r q) o o' w → Writes (AnyStateBy nothing r q) (AnyStateRefusal nothing r q) o o' w
   written_by nothing b is h = subst (λ (x : Bool). Writes (AnyStateBy x r q) (AnyStateRefusal x r q) o o' w) (sym is) h
-
-  -- where something is assumed: of the runs nothing is written
-  pub assumed_runs : (asked : Option RunsWanted) (runs : RunsWanted) → asked ≡ Some runs → Writes (AssumedPossibleBy asked r q) (AssumedPossibleRefusal asked r q) o o (Err fault.Usage)
-  assumed_runs asked runs which = subst (λ (x : Option RunsWanted). Writes (AssumedPossibleBy x r q) (AssumedPossibleRefusal x r q) o o (Err fault.Usage)) (sym which) (inl (refl, refl {a = o}))
-
-  pub assumed_plain : (asked : Option RunsWanted) → asked ≡ None → Writes (AssumedPossibleBy None r q) (AssumedPossibleRefusal None r q) o o' w
-      → Writes (AssumedPossibleBy asked r q) (AssumedPossibleRefusal asked r q) o o' w
-  assumed_plain asked which h = subst (λ (x : Option RunsWanted). Writes (AssumedPossibleBy x r q) (AssumedPossibleRefusal x r q) o o' w) (sym which) h

@@ -21,19 +21,19 @@ at_stored q = record q { now = q.state.moment }
 -- true; each, or some.
 pub record AsksFor (assumed : Option Expression) (off must : Bool) (r : PossibleRequest) (q : Question) (c : PossibleCursor) : Type 0 where
   pub staying : Option Staying
-  pub stays : IsStayingBy r.reachable q.program q.state staying
+  pub stays : IsStayingBy r.reachable assumed q.program q.state staying
   pub same : c ≡ record { program = q.program; coil = q.coil; listed = q.listed; states = counted off staying; claim = claimed must; assumed = assumed; from = 0 }
 
 -- The same of the runs from the state.
-pub record AsksRuns (r : PossibleRequest) (q : Question) (c : RunCursor) : Type 0 where
+pub record AsksRuns (assumed : Option Expression) (r : PossibleRequest) (q : Question) (c : RunCursor) : Type 0 where
   pub staying : Option Staying
-  pub stays : IsStayingBy r.reachable q.program q.state staying
-  pub same : c ≡ record { program = q.program; state = q.state; coil = q.coil; listed = q.listed; states = counted false staying; from = 0 }
+  pub stays : IsStayingBy r.reachable assumed q.program q.state staying
+  pub same : c ≡ record { program = q.program; state = q.state; coil = q.coil; listed = q.listed; states = counted false staying; assumed = assumed; from = 0 }
 
 -- The groups are those of what is asked, of the states that count.
 pub record AreAskedGroups (assumed : Option Expression) (r : PossibleRequest) (q : Question) (groups : List ClassGroup) : Type 0 where
   pub staying : Option Staying
-  pub stays : IsStayingBy r.reachable q.program q.state staying
+  pub stays : IsStayingBy r.reachable assumed q.program q.state staying
   pub are : ArePossibleGroupsBy assumed q.program q.coil q.listed (counted r.off staying) (claimed r.must) groups
 
 -- The summary counts the groups, and the numbers of k bits that they stand for.

@@ -6,12 +6,10 @@ ghost use Rattle.scan_cycle.specs.Standing.{Fits};
 ghost use Rattle.io_text.specs.Log.{PutsAll, WriteLog};
 ghost use Rattle.cli_questions.specs.Query.{Writes, question_of};
 ghost use Rattle.search_groups.specs.declared.class_walk.ClassGroup.{ClassGroup};
-ghost use Rattle.causes_any_state.specs.declared.possible.PossibleCause.{PossibleCause};
-ghost use Rattle.text_lists.specs.PossibleText.{IsCount};
 ghost use Rattle.cli_assumed.specs.Assumed.{HasTruthFault, MayBeTrue};
 ghost use Rattle.cli_states.specs.Query.{AreCounted, at_stored};
 ghost use Rattle.cli_inputs.specs.Reports.{HasCauseFault, Refuses, logs};
-ghost use Rattle.cli_states.specs.AnyState.{AssumedPossibleBy, AssumedPossibleRefusal, BreaksPossible, CountsPossible, HasPossibleFault, PossibleBy, PossibleGroupListBy, PossibleListBy, PossibleRowsBy, ReachedList, possible_counts, possible_group_counts, possible_group_refusal, possible_refusal_by};
+ghost use Rattle.cli_states.specs.AnyState.{AssumedPossibleBy, AssumedPossibleRefusal, BreaksPossible, CountsPossible, HasPossibleFault, PossibleGroupListBy, PossibleListBy, PossibleRowsBy, ReachedListBy, possible_group_counts, possible_group_refusal, possible_refusal_by, row_counts};
 ghost use Rattle.cli_inputs.specs.Setting.{given_by};
 
 use crate::possible_asking::causes_of;
@@ -24,16 +22,13 @@ use cli_questions::{ListCounts, ListForm, ListQuery, list_asked, read_question};
 use io_text::Sink;
 use st_expression::Expression;
 use std::alloc::Global;
-use text_lists::{
-    PossibleGroupSummary, PossibleSummary, write_possible_causes, write_possible_groups,
-};
+use text_lists::{PossibleGroupSummary, write_possible_causes, write_possible_groups};
 use text_runs::write_run_causes;
 
 /// What is counted of rows of which nothing, or so many expressions, is assumed.
-fn counts_of(expressions: u64, summary: PossibleSummary) -> ListCounts
-    ensures { (rows : List PossibleCause) → IsCount summary rows → result ≡ possible_counts expressions rows }
+fn counts_of(expressions: u64, rows: u64, unsettled: u64) -> ListCounts
+    ensures { result ≡ row_counts expressions rows unsettled }
 {
-    let PossibleSummary { rows, unsettled } = summary;
     match expressions {
         0 => ListCounts::Possible { rows, unsettled },
         assumed => ListCounts::AssumedPossible {
@@ -88,7 +83,7 @@ fn write_rows<O: Sink>(
     let written = write_possible_causes(&mut causes, request.limit, out);
     drop(causes);
     match written {
-        Ok(summary) => Ok(counts_of(expressions, summary)),
+        Ok(summary) => Ok(counts_of(expressions, summary.rows, summary.unsettled)),
         Err(_) => Err(ToolFault::Write),
     }
 }
@@ -117,8 +112,33 @@ fn write_grouped<O: Sink>(
     }
 }
 
-/// Writes a row for each number, or for each group.
-fn write_either<O: Sink>(
+/// Writes a row for each number of what is asked, unless no run comes to it.
+fn write_in_runs<O: Sink>(
+    alloc: Global,
+    request: &PossibleRequest,
+    runs: &RunsWanted,
+    asked: &ListQuery,
+    assumed: Option<&Expression>,
+    expressions: u64,
+    out: &mut O,
+) -> Result<ListCounts, ToolFault>
+    requires fits { Fits asked.now.program asked.now.state }
+    ensures { Writes (ReachedListBy (option_map (λ e. e.now) assumed.entry) expressions request.now (at_stored (question_of asked.now))) (HasCauseFault (refusal (at_stored (question_of asked.now)) None)) (O.log out.old) (O.log out.new) result }
+{
+    let mut causes = match run_causes_of(alloc, request, runs.states, asked, assumed) {
+        Ok(causes) => causes,
+        Err(fault) => return Err(ToolFault::Cause(fault)),
+    };
+    let written = write_run_causes(&mut causes, request.limit, out);
+    drop(causes);
+    match written {
+        Ok(summary) => Ok(counts_of(expressions, summary.rows, summary.unsettled)),
+        Err(_) => Err(ToolFault::Write),
+    }
+}
+
+/// Writes a row for each number, also where it is asked of the runs, or for each group.
+fn write_any<O: Sink>(
     alloc: Global,
     request: &PossibleRequest,
     asked: &ListQuery,
@@ -127,56 +147,16 @@ fn write_either<O: Sink>(
     out: &mut O,
 ) -> Result<ListCounts, ToolFault>
     requires fits { Fits asked.now.program asked.now.state }
-    ensures { Writes (PossibleRowsBy request.now.grouped (option_map (λ e. e.now) assumed.entry) expressions request.now (at_stored (question_of asked.now)))
-        (HasCauseFault (possible_refusal_by None request.now.grouped (at_stored (question_of asked.now)))) (O.log out.old) (O.log out.new) result }
+    ensures { Writes (PossibleRowsBy request.now.runs request.now.grouped (option_map (λ e. e.now) assumed.entry) expressions request.now (at_stored (question_of asked.now)))
+        (HasCauseFault (possible_refusal_by request.now.runs request.now.grouped (at_stored (question_of asked.now)))) (O.log out.old) (O.log out.new) result }
 {
+    if let Some(runs) = &request.runs {
+        return write_in_runs(alloc, request, runs, asked, assumed, expressions, out);
+    }
     if request.grouped {
         return write_grouped(alloc, request, asked, assumed, expressions, out);
     }
     write_rows(alloc, request, asked, assumed, expressions, out)
-}
-
-/// Writes a row for each number of what is asked, unless no run comes to it.
-fn write_in_runs<O: Sink>(
-    alloc: Global,
-    request: &PossibleRequest,
-    runs: &RunsWanted,
-    asked: &ListQuery,
-    out: &mut O,
-) -> Result<ListCounts, ToolFault>
-    requires fits { Fits asked.now.program asked.now.state }
-    ensures { Writes (ReachedList request.now (at_stored (question_of asked.now))) (HasCauseFault (refusal (at_stored (question_of asked.now)) None)) (O.log out.old) (O.log out.new) result }
-{
-    let mut causes = match run_causes_of(alloc, request, runs.states, asked) {
-        Ok(causes) => causes,
-        Err(fault) => return Err(ToolFault::Cause(fault)),
-    };
-    let written = write_run_causes(&mut causes, request.limit, out);
-    drop(causes);
-    match written {
-        Ok(summary) => Ok(ListCounts::Possible {
-            rows: summary.rows,
-            unsettled: summary.unsettled,
-        }),
-        Err(_) => Err(ToolFault::Write),
-    }
-}
-
-/// Writes what is asked where nothing is assumed.
-fn write_plain<O: Sink>(
-    alloc: Global,
-    request: &PossibleRequest,
-    asked: &ListQuery,
-    out: &mut O,
-) -> Result<ListCounts, ToolFault>
-    requires fits { Fits asked.now.program asked.now.state }
-    ensures { Writes (PossibleBy request.now.runs request.now.grouped request.now (at_stored (question_of asked.now)))
-        (HasCauseFault (possible_refusal_by request.now.runs request.now.grouped (at_stored (question_of asked.now)))) (O.log out.old) (O.log out.new) result }
-{
-    if let Some(runs) = &request.runs {
-        return write_in_runs(alloc, request, runs, asked, out);
-    }
-    write_either(alloc, request, asked, None, 0, out)
 }
 
 /// Writes what is asked of what is assumed, where it can be true.
@@ -190,8 +170,8 @@ fn write_possible<O: Sink>(
     requires fits { Fits asked.now.program asked.now.state }
     ensures { Writes
         (λ text c. MayBeTrue (option_map (λ e. e.now) assumed.entry)
-        × PossibleRowsBy request.now.grouped (option_map (λ e. e.now) assumed.entry) (length request.now.assumed.items) request.now (at_stored (question_of asked.now)) text c)
-        (λ f. HasTruthFault (option_map (λ e. e.now) assumed.entry) f ⊎ HasCauseFault (possible_refusal_by None request.now.grouped (at_stored (question_of asked.now))) f)
+        × PossibleRowsBy request.now.runs request.now.grouped (option_map (λ e. e.now) assumed.entry) (length request.now.assumed.items) request.now (at_stored (question_of asked.now)) text c)
+        (λ f. HasTruthFault (option_map (λ e. e.now) assumed.entry) f ⊎ HasCauseFault (possible_refusal_by request.now.runs request.now.grouped (at_stored (question_of asked.now))) f)
         (O.log out.old) (O.log out.new) result }
 {
     match check_satisfiable(alloc, assumed) {
@@ -200,10 +180,10 @@ fn write_possible<O: Sink>(
     }
     let texts = request.assumed.as_slice();
     let expressions = texts.len() as u64;
-    write_either(alloc, request, asked, assumed, expressions, out)
+    write_any(alloc, request, asked, assumed, expressions, out)
 }
 
-/// Writes what is asked of the expressions that are assumed. Of the runs it is refused.
+/// Writes what is asked of the expressions that are assumed.
 fn write_assuming<O: Sink>(
     alloc: Global,
     request: &PossibleRequest,
@@ -211,12 +191,9 @@ fn write_assuming<O: Sink>(
     out: &mut O,
 ) -> Result<ListCounts, ToolFault>
     requires fits { Fits asked.now.program asked.now.state }
-    ensures { Writes (AssumedPossibleBy request.now.runs request.now (at_stored (question_of asked.now)))
-        (AssumedPossibleRefusal request.now.runs request.now (at_stored (question_of asked.now))) (O.log out.old) (O.log out.new) result }
+    ensures { Writes (AssumedPossibleBy request.now (at_stored (question_of asked.now)))
+        (AssumedPossibleRefusal request.now (at_stored (question_of asked.now))) (O.log out.old) (O.log out.new) result }
 {
-    if let Some(_runs) = &request.runs {
-        return Err(ToolFault::Usage);
-    }
     let texts = request.assumed.as_slice();
     let assumed = match read_assumed(alloc, &asked.program, texts) {
         Ok(assumed) => assumed,
@@ -250,7 +227,7 @@ impl<'a> ListForm for PossibleRows<'a> {
         let request = self.request;
         let assumed = request.assumed.as_slice();
         if assumed.is_empty() {
-            return write_plain(alloc, request, asked, out);
+            return write_any(alloc, request, asked, None, 0, out);
         }
         write_assuming(alloc, request, asked, out)
     }

@@ -1,19 +1,21 @@
 //! What a request for what some state, or every one, switches on asks.
 
-ghost use Rattle.std.specs.Prelude.{◌≡◌, IfErr, IfOk, None, option_map};
+ghost use Rattle.std.specs.Prelude.{◌≡◌, IfErr, IfOk, None, Some, option_map};
 ghost use Rattle.causes_query.specs.Refusal.{reason, refusal};
 ghost use Rattle.scan_cycle.specs.Standing.{Fits};
 ghost use Rattle.cli_questions.specs.Query.{question_of};
 ghost use Rattle.cli_states.specs.Query.{AsksFor, at_stored};
-ghost use Rattle.cli_states.specs.AnyState.{IsStayingBy, claimed, counted};
+ghost use Rattle.cli_states.specs.AnyState.{IsSettledBy, IsStayingBy, claimed, counted};
 
 use causes_any_state::{Before, Claim, PossibleCauses, PossibleQuery, States};
 use causes_query::CauseFault;
 use causes_query::refusal::refusal;
+use causes_query::source::input_variables;
 use cli_arguments::PossibleRequest;
 use cli_questions::ListQuery;
 use diagram_program::Program;
-use invariant_runs::staying_in_runs;
+use invariant_cases::Assumption;
+use invariant_runs::{staying_in_runs, staying_in_runs_assuming};
 use invariant_sets::{PAIR_SCANS, SCANS, Staying};
 use scan_cycle::{Memory, State};
 use st_expression::Expression;
@@ -53,20 +55,55 @@ fn claim_of(must: bool) -> Claim
     if must { Claim::Forced } else { Claim::Possible }
 }
 
-/// What stays so from the state on, where it is asked for.
+/// What stays so from the state on in runs in whose scans an expression over the inputs is true.
+fn staying_where_true(
+    alloc: Global,
+    program: &Program,
+    state: &State,
+    assumed: &Expression,
+) -> Result<Staying, Memory>
+    requires { Fits program.now state.now }
+    ensures { IfOk result (λ known. IsSettledBy (Some assumed.now) program.now state.now known) }
+{
+    let inputs = input_variables(alloc, program.decls().vars())?;
+    let assumption = Assumption {
+        inputs: &inputs,
+        expression: Some(assumed),
+    };
+    staying_in_runs_assuming(alloc, program, state, assumption, SCANS, PAIR_SCANS)
+}
+
+/// What stays so from the state on in runs, where something is assumed of the inputs in those in whose scans it is true.
+fn staying_by(
+    alloc: Global,
+    program: &Program,
+    state: &State,
+    assumed: Option<&Expression>,
+) -> Result<Staying, Memory>
+    requires { Fits program.now state.now }
+    ensures { IfOk result (λ known. IsSettledBy (option_map (λ e. e.now) assumed.entry) program.now state.now known) }
+{
+    match assumed {
+        Some(assumed) => staying_where_true(alloc, program, state, assumed),
+        None => staying_in_runs(alloc, program, state, SCANS, PAIR_SCANS),
+    }
+}
+
+/// What stays so, where that is asked for.
 fn staying_of(
     alloc: Global,
     reachable: bool,
     program: &Program,
     state: &State,
+    assumed: Option<&Expression>,
 ) -> Result<Option<Staying>, Memory>
     requires { Fits program.now state.now }
-    ensures { IfOk result (λ staying. IsStayingBy reachable program.now state.now staying) }
+    ensures { IfOk result (λ staying. IsStayingBy reachable (option_map (λ e. e.now) assumed.entry) program.now state.now staying) }
 {
     if !reachable {
         return Ok(None);
     }
-    let staying = staying_in_runs(alloc, program, state, SCANS, PAIR_SCANS)?;
+    let staying = staying_by(alloc, program, state, assumed)?;
     Ok(Some(staying))
 }
 
@@ -90,7 +127,7 @@ pub(crate) fn causes_of<'a>(
     if let Some(fault) = refusal(program, state, state.moment(), coil, inputs, None) {
         return Err(fault);
     }
-    let Ok(staying) = staying_of(alloc, request.reachable, program, state) else {
+    let Ok(staying) = staying_of(alloc, request.reachable, program, state, assumed) else {
         return Err(CauseFault::Memory);
     };
     let states = counted(off, staying);

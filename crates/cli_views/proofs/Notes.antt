@@ -1,5 +1,5 @@
 -- The lines below a drawing of what is assumed, written one after the other.
-use Rattle.std.proofs.Common.{◌≡◌, refl, subst, sym, ℕ, List, ◌∷◌, Result}
+use Rattle.std.proofs.Common.{◌≡◌, subst, sym, ℕ, List, ◌∷◌, Result}
 use Rattle.std.specs.Prelude.{flat_map}
 use Rattle.io_text.specs.Log.{Puts, PutsAll, PutsPrefix, WriteLog}
 use Rattle.cli_inputs.proofs.Ends.{puts_cut, puts_next}

@@ -32,10 +32,10 @@ one_given c d e rows row gave gives =
     let from : e.from ≡ row.number + 1 = ap (λ (x : RunCursor). x.from) gives.then in
     record {
       later = omega (arith, gave.later, gives.from, from);
-      rows_are = subst (λ (n : ℕ). AreRunRows c.program c.state c.coil c.listed c.states c.from n (rows ++ row ∷ [])) (sym from)
-          (run_rows_more c.program c.state c.coil c.listed c.states rows c.from d.from gave.rows_are gave.later row gives.from
-          (here (λ x. AreUnreached x.program x.state x.coil x.listed d.from row.number) gives.unreached_before)
-          (here (λ x. RowSays row.reached x.program x.state x.coil x.listed x.states row.number) gives.said));
+      rows_are = subst (λ (n : ℕ). AreRunRows c.assumed c.program c.state c.coil c.listed c.states c.from n (rows ++ row ∷ [])) (sym from)
+          (run_rows_more c.assumed c.program c.state c.coil c.listed c.states rows c.from d.from gave.rows_are gave.later row gives.from
+          (here (λ x. AreUnreached x.assumed x.program x.state x.coil x.listed d.from row.number) gives.unreached_before)
+          (here (λ x. RowSays x.assumed row.reached x.program x.state x.coil x.listed x.states row.number) gives.said));
       same = gives.then ∙ ap (λ (x : RunCursor). record x { from = row.number + 1 }) gave.same
           ∙ ap (λ n. record c { from = n }) (sym from);
     }
@@ -99,7 +99,7 @@ ends_there a b w0 w1 c d s limit added within reached = record {
 -- No run comes to a further number.
 pub ends : (a b : WriteLog) (w0 w1 : List ℕ) (c d e : RunCursor) (s : RunSummary) (limit : Option ℕ) → AddedRows a b w0 w1 c d s
     → IfSome limit (λ n. s.rows ≤ n) → d.from ≤ 2 ^ length d.listed
-    → AreUnreached d.program d.state d.coil d.listed d.from (2 ^ length d.listed) → e ≡ record d { from = 2 ^ length d.listed }
+    → AreUnreached d.assumed d.program d.state d.coil d.listed d.from (2 ^ length d.listed) → e ≡ record d { from = 2 ^ length d.listed }
     → AddsRows a b w0 w1 c e limit (Ok s)
 ends a b w0 w1 c d e s limit added few within none same =
     let gave = added.gave in
@@ -109,9 +109,9 @@ ends a b w0 w1 c d e s limit added few within none same =
       rows = added.rows;
       gave = record {
         later = omega (arith, gave.later, within, from);
-        rows_are = run_rows_end c.program c.state c.coil c.listed c.states added.rows c.from d.from e.from gave.rows_are (omega (arith, within, from))
-            (subst (λ (n : ℕ). AreUnreached c.program c.state c.coil c.listed d.from n) (sym from)
-            (subst (λ (x : RunCursor). AreUnreached x.program x.state x.coil x.listed d.from (2 ^ length d.listed)) gave.same none));
+        rows_are = run_rows_end c.assumed c.program c.state c.coil c.listed c.states added.rows c.from d.from e.from gave.rows_are (omega (arith, within, from))
+            (subst (λ (n : ℕ). AreUnreached c.assumed c.program c.state c.coil c.listed d.from n) (sym from)
+            (subst (λ (x : RunCursor). AreUnreached x.assumed x.program x.state x.coil x.listed d.from (2 ^ length d.listed)) gave.same none));
         same = same ∙ ap (λ (x : RunCursor). record x { from = 2 ^ length d.listed }) gave.same ∙ ap (λ n. record c { from = n }) (sym from);
       };
       few = few_rows limit added.rows s added.counts few;

@@ -40,7 +40,7 @@ IsCount s rows = (s.rows ≡ length rows) × (s.unsettled ≡ count_by (λ row. 
 -- A cursor gave these rows, and is where it is after them.
 pub record Gave (c : RunCursor) (rows : List RunCause) (d : RunCursor) : Type 0 where
   pub later : c.from ≤ d.from
-  pub rows_are : AreRunRows c.program c.state c.coil c.listed c.states c.from d.from rows
+  pub rows_are : AreRunRows c.assumed c.program c.state c.coil c.listed c.states c.from d.from rows
   pub same : d ≡ record c { from = d.from }
 
 -- They are no more than a limit allows.

@@ -1,30 +1,18 @@
-use Rattle.std.proofs.Common.{◌⊎◌, Err, List, None, Option, inl, inr, length, refl, subst, sym, ℕ}
+use Rattle.std.proofs.Common.{◌⊎◌, List, Option, inl, inr, length, refl, subst, sym, ℕ}
 use Rattle.std.specs.Prelude.{map, option_map, string_bytes}
 use Rattle.assume_reading.specs.Several.{AreAssumptions}
 use Rattle.cli_inputs.specs.Reports.{HasCauseFault}
 use Rattle.cli_inputs.specs.declared.fault.ToolFault.{ToolFault}
-use Rattle.cli_inputs.specs.declared.fault.ToolFault.TheVariants as fault
 use Rattle.cli_assumed.specs.Assumed.{HasTruthFault, MayBeTrue}
 use Rattle.cli_questions.specs.declared.counting.ListCounts.{ListCounts}
 use Rattle.cli_questions.specs.Query.{question_of}
 use Rattle.cli_states.specs.AnyState.{AssumedPossibleBy, AssumedPossibleRefusal, PossibleRowsBy, possible_refusal_by}
 use Rattle.cli_states.specs.Query.{at_stored}
-use Rattle.cli_states.proofs.PossibleEnds.{assumed_plain, assumed_runs, writes_as}
+use Rattle.cli_states.proofs.PossibleEnds.{writes_as}
 use Rattle.cli_states.proofs.possible.write_assuming.Goals as goal
 
-pub returns-in-Some : goal.returns-in-Some
-returns-in-Some g c =
-    let r = c.args.request.now in
-    let o = g.O.Sink.log c.args.out.now in
-    assumed_runs r (at_stored (question_of c.args.asked.now)) o o (Err fault.Usage) r.runs c.in-Some._runs c.in-Some.is
-
 pub returns-in-Err : goal.returns-in-Err
-returns-in-Err g c =
-    let r = c.args.request.now in
-    let q = at_stored (question_of c.args.asked.now) in
-    let o = g.O.Sink.log c.args.out.now in
-    assumed_plain r q o o (Err c.in-Err.fault) r.runs c.in_default.is
-    (inl (inl (rw c.as_slice-texts.ensures.value at c.in-Err.ensures.fault), refl {a = o}))
+returns-in-Err g c = inl (inl (rw c.as_slice-texts.ensures.value at c.in-Err.ensures.fault), refl)
 
 pub returns : goal.returns
 returns g c =
@@ -34,9 +22,8 @@ returns g c =
     let w = c.write_possible-written in
     let assumed = option_map (λ e. e.now) c.as_ref.result in
     let read = subst (λ a. AreAssumptions q.program.decls (map string_bytes r.assumed.items) a) (sym c.as_ref.ensures.value) (rw c.as_slice-texts.ensures.value at c.in-Ok.ensures.read) in
-    let is : (text : List ℕ) (n : Option ListCounts) → MayBeTrue assumed × PossibleRowsBy r.grouped assumed (length r.assumed.items) r q text n → AssumedPossibleBy None r q text n =
+    let is : (text : List ℕ) (n : Option ListCounts) → MayBeTrue assumed × PossibleRowsBy r.runs r.grouped assumed (length r.assumed.items) r q text n → AssumedPossibleBy r q text n =
     λ text n h. (assumed, read, h.0, h.1) in
-    let refuses : (f : ToolFault) → HasTruthFault assumed f ⊎ HasCauseFault (possible_refusal_by None r.grouped q) f → AssumedPossibleRefusal None r q f =
+    let refuses : (f : ToolFault) → HasTruthFault assumed f ⊎ HasCauseFault (possible_refusal_by r.runs r.grouped q) f → AssumedPossibleRefusal r q f =
     λ f h. inr (assumed, read, h) in
-    assumed_plain r q o (g.O.Sink.log w.new.out) w.result r.runs c.in_default.is
-    (writes_as _ (AssumedPossibleBy None r q) _ (AssumedPossibleRefusal None r q) o (g.O.Sink.log w.new.out) w.result is refuses w.ensures)
+    writes_as _ (AssumedPossibleBy r q) _ (AssumedPossibleRefusal r q) o (g.O.Sink.log w.new.out) w.result is refuses w.ensures

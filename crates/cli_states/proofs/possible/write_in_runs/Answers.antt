@@ -1,10 +1,11 @@
 use Rattle.std.proofs.Common.{inl, inr, refl}
-use Rattle.std.specs.Prelude.{None}
+use Rattle.std.specs.Prelude.{None, option_map}
 use Rattle.causes_query.specs.Refusal.{refusal}
 use Rattle.text_runs.specs.CauseText.{run_causes_text}
 use Rattle.cli_inputs.proofs.Ends.{cause_fault}
 use Rattle.cli_questions.specs.Query.{question_of}
 use Rattle.cli_states.specs.Query.{at_stored}
+use Rattle.cli_states.proofs.PossibleEnds.{same_counts}
 use Rattle.cli_states.proofs.RunEnds.{runs_all, runs_some}
 use Rattle.cli_states.proofs.possible.write_in_runs.Goals as goal
 
@@ -13,18 +14,21 @@ returns-in-Err g c = inl (cause_fault (refusal (at_stored (question_of c.args.as
 
 pub returns-in-Ok-written : goal.returns-in-Ok-written
 returns-in-Ok-written g c =
+    let assumed = option_map (λ e. e.now) c.args.assumed in
     let q = at_stored (question_of c.args.asked.now) in
     let causes = c.in-Ok.causes in
     let made = c.in-Ok.ensures in
     let w = c.in-Ok-written in
     let e = w.ensures in (
       run_causes_text causes.program causes.listed e.0,
-      runs_all c.args.request.now q causes c.write_run_causes-written.new.causes e.0 made.accepted made.cursor e.1 e.2 w.summary e.4.0 e.4.1,
+      runs_all assumed c.args.expressions c.args.request.now q causes c.write_run_causes-written.new.causes e.0 made.accepted made.cursor e.1 e.2 c.counts_of.result
+          (same_counts c.args.expressions _ _ _ _ c.counts_of.result c.counts_of.ensures e.4.0.0 e.4.0.1) e.4.1,
       e.3,
     )
 
 pub returns-in-Err-written : goal.returns-in-Err-written
 returns-in-Err-written g c =
+    let assumed = option_map (λ e. e.now) c.args.assumed in
     let q = at_stored (question_of c.args.asked.now) in
     let causes = c.in-Ok.causes in
     let made = c.in-Ok.ensures in
@@ -33,7 +37,7 @@ returns-in-Err-written g c =
       refl,
       (
         run_causes_text causes.program causes.listed e.0,
-        runs_some c.args.request.now q causes c.write_run_causes-written.new.causes e.0 made.accepted made.cursor e.1 e.2,
+        runs_some assumed c.args.expressions c.args.request.now q causes c.write_run_causes-written.new.causes e.0 made.accepted made.cursor e.1 e.2,
         e.3,
       ),
     )

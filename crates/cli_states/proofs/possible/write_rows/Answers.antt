@@ -5,7 +5,7 @@ use Rattle.text_lists.specs.PossibleText.{possible_text}
 use Rattle.cli_inputs.proofs.Ends.{cause_fault}
 use Rattle.cli_questions.specs.Query.{question_of}
 use Rattle.cli_states.specs.Query.{at_stored}
-use Rattle.cli_states.proofs.PossibleEnds.{are_all, are_some}
+use Rattle.cli_states.proofs.PossibleEnds.{are_all, are_some, same_counts}
 use Rattle.cli_states.proofs.possible.write_rows.Goals as goal
 
 pub returns-in-Err : goal.returns-in-Err
@@ -20,7 +20,7 @@ returns-in-Ok-written g c =
     let e = c.in-Ok-written.ensures in (
       possible_text causes.program causes.listed e.0,
       are_all assumed c.args.expressions c.args.request.now q causes c.write_possible_causes-written.new.causes e.0 made.accepted made.cursor e.1 e.2 c.counts_of.result
-          (c.counts_of.ensures e.0 e.4.0) e.4.1,
+          (same_counts c.args.expressions _ _ _ _ c.counts_of.result c.counts_of.ensures e.4.0.0 e.4.0.1) e.4.1,
       e.3,
     )
 

@@ -50,28 +50,28 @@ returns-clause-failed g c = λ save status.
     let listed = c.in-Ok.asked.inputs.items in
     let viewed : IsViewed given v c.args.program.now c.args.state.now coil listed = record { set = c.requires.set; on = rw c.decls-decls.ensures at c.in-Ok.ensures.coil; among = rw (c.decls-decls.ensures, c.deref.ensures.value) at c.in-Ok.ensures.inputs } in
     elim c.in-Err-draw.ensures.failed [
-      inl memory ↦ inl (record {
+      | inl memory ↦ inl (record {
         reason = c.in-Err-draw.fault;
         has = inr (inl (c.args.program.now, c.args.state.now, c.requires.set, subst (λ (f : ToolFault). HasWordFault c.args.program.now.decls (names_in (option_map string_bytes v.coil) (map string_bytes v.inputs.items)) f) (sym memory.0) tt));
         unwritten = memory.1;
         unsaved = refl {a = save};
         reported = c.report-in-Err-draw.ensures.line;
       })
-    | inr part ↦ inr (
-      record {
-        program = c.args.program.now;
-        state = c.args.state.now;
-        coil = coil;
-        listed = listed;
-        viewed = viewed;
-        accepted = c.in-Ok-inputs_of.ensures.accepted;
-        as_assumed = c.in-Ok-inputs_of.ensures.assumed;
-        shown = part.1.0;
-        is = same_drawing given v c.args.program.now c.args.state.now c.moment-2.result coil listed c.deref-2.result.now c.deref-3.result.now
-            c.in-Ok-inputs_of.inputs.items part.1.0 (c.moment-2.ensures ∙ ap (unwrap_or v.moment) c.moment.ensures) c.deref-2.ensures.value
-            c.deref-3.ensures.value c.in-Ok-inputs_of.ensures.inputs part.1.1;
-        written = part.1.2;
-      },
-      subst (λ (f : ToolFault). IsReported given (g.E.Sink.log c.args.err.now) (g.E.Sink.log c.report-in-Err-draw.new.err) f) part.0 c.report-in-Err-draw.ensures.line,
-    )
+      | inr part ↦ inr (
+        record {
+          program = c.args.program.now;
+          state = c.args.state.now;
+          coil = coil;
+          listed = listed;
+          viewed = viewed;
+          accepted = c.in-Ok-inputs_of.ensures.accepted;
+          as_assumed = c.in-Ok-inputs_of.ensures.assumed;
+          shown = part.1.0;
+          is = same_drawing given v c.args.program.now c.args.state.now c.moment-2.result coil listed c.deref-2.result.now c.deref-3.result.now
+              c.in-Ok-inputs_of.inputs.items part.1.0 (c.moment-2.ensures ∙ ap (unwrap_or v.moment) c.moment.ensures) c.deref-2.ensures.value
+              c.deref-3.ensures.value c.in-Ok-inputs_of.ensures.inputs part.1.1;
+          written = part.1.2;
+        },
+        subst (λ (f : ToolFault). IsReported given (g.E.Sink.log c.args.err.now) (g.E.Sink.log c.report-in-Err-draw.new.err) f) part.0 c.report-in-Err-draw.ensures.line,
+      )
     ]

@@ -17,7 +17,7 @@ loop-limit-init g c =
     record {
       added = record {
         rows = [];
-        gave = record { later = omega arith; rows_are = no_run_rows asked.program asked.state asked.coil asked.listed asked.states asked.from; same = refl };
+        gave = record { later = omega arith; rows_are = no_run_rows asked.assumed asked.program asked.state asked.coil asked.listed asked.states asked.from; same = refl };
         sends = sends_none _ c.args.buffer.now;
         counts = (refl, refl);
       };

@@ -13,7 +13,7 @@ returns-in_err-add_header g c =
     let asked = c.args.causes.now in
     let failed = c.from_residual.ensures.0 in (
       [],
-      record { later = omega arith; rows_are = no_run_rows asked.program asked.state asked.coil asked.listed asked.states asked.from; same = refl },
+      record { later = omega arith; rows_are = no_run_rows asked.assumed asked.program asked.state asked.coil asked.listed asked.states asked.from; same = refl },
       none_few c.args.limit,
       puts_err _ _ _ _ failed
           (sends_prefix _ _ _ [] [] (run_causes_text asked.program asked.listed []) [] (line_text (run_header asked.program asked.listed)) [] refl (sends_none _ [])

@@ -10,7 +10,7 @@ pub returns-then-is_empty : goal.returns-then-is_empty
 returns-then-is_empty g c =
     let r = c.args.self.now.request.now in
     let nothing : assumes_nothing r ≡ true = ap (λ xs. length xs == 0) (sym c.as_slice-assumed.ensures.value) ∙ sym c.is_empty.ensures ∙ c.if-is_empty.true in
-    written_by r (at_stored (question_of c.args.asked.now)) _ _ _ (assumes_nothing r) true nothing c.write_plain.ensures
+    written_by r (at_stored (question_of c.args.asked.now)) _ _ _ (assumes_nothing r) true nothing c.write_any.ensures
 
 pub returns : goal.returns
 returns g c =
