@@ -31,13 +31,17 @@ use Rattle.cli_questions.specs.Ending.{BreaksOff, Ends, Listing}
 use Rattle.cli_questions.specs.declared.counting.ListCounts.{ListCounts}
 use Rattle.cli_questions.specs.declared.counting.ListCounts.TheVariants as counts
 use Rattle.cli_diff.specs.Assumed.{Assumption}
+use Rattle.cli_diff.specs.AssumedEnding.{Assumes}
 use Rattle.cli_diff.specs.Ending.{RefusesOf}
+use Rattle.cli_assumed_both.specs.Together.{HasAssumedFault, IsAssumedWhere}
 use Rattle.cli_verdicts.specs.declared.assuming.AssumedOfBoth.{AssumedOfBoth}
 use Rattle.cli_verdicts.specs.declared.writing.Wanted.{Wanted}
 
--- what is counted of findings
+-- what is counted of findings: how many expressions are assumed too, where something is
 abbrev pub verdict_counts : Option Assumption → List Finding → Bool → ListCounts
-verdict_counts a list is_equivalent = counts.Verdicts (tally_of list).same (tally_of list).differs (tally_of list).unsettled is_equivalent
+verdict_counts None list is_equivalent = counts.Verdicts (tally_of list).same (tally_of list).differs (tally_of list).unsettled is_equivalent
+verdict_counts (Some a) list is_equivalent =
+    counts.AssumedVerdicts (tally_of list).same (tally_of list).differs (tally_of list).unsettled is_equivalent a.expressions
 
 -- what is assumed of the inputs of both programs, where something is: an expression over those of each, in order of declaration
 abbrev pub assumed_in : Option Assumption → Drawing → Drawing → BothAssumed
@@ -78,24 +82,27 @@ abbrev pub FindsKept : Option Assumption → Bool → Bool → Drawing → Drawi
 FindsKept a keeps reachable p q m witnesses text c = (f : Finds a reachable p q text c) × (f.matching ≡ m)
     × (keeps ≡ true → AreWitnesses f.states f.matching p q f.verdicts witnesses)
 
--- The texts describe the two programs.
-abbrev pub JudgesAssuming : Option Assumption → Given → Given → Bool → Listing
-JudgesAssuming a g h reachable text c = (p q : Drawing) × HasProgram g.aliases g.program p × HasProgram h.aliases h.program q × Finds a reachable p q text c
+-- what a request assumes of the inputs
+abbrev pub assumes_of : VerdictRequest → Assumes
+assumes_of r = record { expressions = r.assumed.items; takes_comments = r.takes_comments }
 
--- where nothing is assumed
-abbrev pub Judges : Given → Given → Bool → Listing
-Judges g h reachable text c = JudgesAssuming None g h reachable text c
+-- The same of these programs, where what the request assumes is true.
+abbrev pub FindsAssuming : Given → Given → VerdictRequest → Bool → Drawing → Drawing → Matching → List Witness → Listing
+FindsAssuming g h r keeps p q m witnesses text c =
+    (a : Option Assumption) × IsAssumedWhere g h (assumes_of r) p q a × FindsKept a keeps r.reachable p q m witnesses text c
+
+-- The texts describe the two programs, and this is what is found where what the request assumes is true.
+abbrev pub Judges : Given → Given → VerdictRequest → Listing
+Judges g h r text c = (p q : Drawing) × HasProgram g.aliases g.program p × HasProgram h.aliases h.program q
+    × (a : Option Assumption) × IsAssumedWhere g h (assumes_of r) p q a × Finds a r.reachable p q text c
 
 -- Status 0: what was found was written, and then the line of counts.
 abbrev pub CountsVerdicts : Given → Given → VerdictRequest → WriteLog → WriteLog → (List ℕ → Type 0) → Type 0
-CountsVerdicts g h r = Ends (Judges g h r.reachable) r.quiet
+CountsVerdicts g h r = Ends (Judges g h r) r.quiet
 
 -- Status 1, by a writer that failed.
-abbrev pub BreaksAssuming : Option Assumption → Given → Given → VerdictRequest → Logs → Logs → Type 0
-BreaksAssuming a g h r = BreaksOff g (JudgesAssuming a g h r.reachable) r.quiet
-
 abbrev pub BreaksVerdicts : Given → Given → VerdictRequest → Logs → Logs → Type 0
-BreaksVerdicts g h r = BreaksAssuming None g h r
+BreaksVerdicts g h r = BreaksOff g (Judges g h r) r.quiet
 
 -- A fault of the old text; of the new one, where the old one has none; or being out of memory.
 abbrev pub HasTextFault : Given → Given → Option Side → ToolFault → Type 0
@@ -103,16 +110,18 @@ HasTextFault g h (Some Old) f = HasProgramFault g f
 HasTextFault g h (Some New) f = (p : Drawing) × HasProgram g.aliases g.program p × HasProgramFault h f
 HasTextFault g h None f = f ≡ fault.Memory
 
+-- A fault of the texts, or then of what is assumed of the programs that these describe.
+abbrev pub HasVerdictFault : Given → Given → VerdictRequest → Option Side → ToolFault → Type 0
+HasVerdictFault g h r side f = HasTextFault g h side f
+    ⊎ ((p q : Drawing) × HasProgram g.aliases g.program p × HasProgram h.aliases h.program q × HasAssumedFault side g h (assumes_of r) p q f)
+
 -- Whether faults are explained, and aliases printed, is said by the request.
 abbrev pub IsSaidBy : Given → VerdictRequest → Type 0
 IsSaidBy g r = (g.why ≡ r.why) × (g.aliases ≡ r.aliases)
 
--- Status 1: a fault of the texts, or a writer that failed.
-abbrev pub FailsToJudgeAssuming : Option Assumption → Given → Given → VerdictRequest → Logs → Logs → Type 0
-FailsToJudgeAssuming a g h r old new = RefusesOf g h (HasTextFault g h) old new ⊎ BreaksAssuming a g h r old new
-
+-- Status 1: a fault of the texts or of what is assumed, or a writer that failed.
 abbrev pub FailsToJudge : Given → Given → VerdictRequest → Logs → Logs → Type 0
-FailsToJudge g h r old new = FailsToJudgeAssuming None g h r old new
+FailsToJudge g h r old new = RefusesOf g h (HasVerdictFault g h r) old new ⊎ BreaksVerdicts g h r old new
 
 -- ---- private to the judging
 

@@ -1,11 +1,13 @@
 //! What is assumed of the inputs of two programs.
 
-ghost use Rattle.std.specs.Prelude.{◌≡◌, IfOk};
+ghost use Rattle.std.specs.Prelude.{◌≡◌, IfOk, option_map};
 ghost use Rattle.invariant_sets.specs.Invariants.{input_numbers};
 ghost use Rattle.diff_cases.specs.Assuming.{assumed_of_both};
+ghost use Rattle.cli_assumed_both.specs.Together.{assumption_read};
 ghost use Rattle.cli_verdicts.specs.Ending.{assumed_in, assumption_of};
 
 use causes_query::source::input_variables;
+use cli_diff::ReadAssumed;
 use diagram_program::Program;
 use diff_cases::Assumptions;
 use invariant_cases::Assumption;
@@ -16,11 +18,25 @@ use std::alloc::Global;
 /// What is assumed of two programs: of each an expression over its own inputs, where there is one. An operand of it is an input, by its place in
 /// order of declaration.
 #[derive(Clone, Copy)]
-pub struct AssumedOfBoth<'a> {
+pub(crate) struct AssumedOfBoth<'a> {
     pub old: Option<&'a Expression>,
     pub new: Option<&'a Expression>,
     /// Of how many expressions it is made.
     pub expressions: u64,
+}
+
+/// What was read, as the judging takes it.
+pub(crate) fn as_assumed(read: &Option<ReadAssumed>) -> Option<AssumedOfBoth<'_>>
+    ensures { assumption_of result ≡ option_map assumption_read read.now }
+{
+    match read {
+        Some(read) => Some(AssumedOfBoth {
+            old: read.old.as_ref(),
+            new: read.new.as_ref(),
+            expressions: read.expressions,
+        }),
+        None => None,
+    }
 }
 
 /// The numbers of the inputs' variables in each program, in order of declaration.

@@ -6,7 +6,7 @@ ghost use Rattle.cli_inputs.specs.Reports.{logs, unread};
 ghost use Rattle.cli_inputs.specs.Setting.{Given, given_by};
 ghost use Rattle.cli_diff.specs.Ending.{RefusesOf};
 ghost use Rattle.cli_diff.specs.Files.{AreBothRead, StopsAtOne, diff_files};
-ghost use Rattle.cli_verdicts.specs.Ending.{BreaksVerdicts, CountsVerdicts, HasTextFault, IsSaidBy};
+ghost use Rattle.cli_verdicts.specs.Ending.{BreaksVerdicts, CountsVerdicts, HasVerdictFault, IsSaidBy};
 
 use crate::judging::judge;
 use cli_arguments::VerdictRequest;
@@ -34,7 +34,7 @@ pub fn judge_files<R: Source, O: Sink, E: Sink>(
         (logs (O.log out.old) save (E.log err.old)) (logs (O.log out.new) save (E.log err.new))
         ⊎ ((g h : Given) × IsSaidBy g request.now × IsSaidBy h request.now
         × AreBothRead (diff_files (R.log readers.old.old_program) (R.log readers.old.new_program) (option_map R.log readers.old.old_state) (option_map R.log readers.old.new_state)) g h
-        × (RefusesOf g h (HasTextFault g h) (logs (O.log out.old) save (E.log err.old)) (logs (O.log out.new) save (E.log err.new))
+        × (RefusesOf g h (HasVerdictFault g h request.now) (logs (O.log out.old) save (E.log err.old)) (logs (O.log out.new) save (E.log err.new))
         ⊎ BreaksVerdicts g h request.now (logs (O.log out.old) save (E.log err.old)) (logs (O.log out.new) save (E.log err.new)))) }
 {
     let manner = Manner {

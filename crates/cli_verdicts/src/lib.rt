@@ -8,7 +8,6 @@ mod judging;
 mod reading;
 mod writing;
 
-pub use assuming::AssumedOfBoth;
 pub use files::judge_files;
 pub use judging::{judge, judge_programs};
 pub use reading::{Programs, read_programs};

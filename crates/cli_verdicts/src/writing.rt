@@ -83,7 +83,7 @@ fn judged(
     judge_all(alloc, &mut judge, wanted.looks, wanted.keeps)
 }
 
-/// What is counted of findings.
+/// What is counted of findings, and of how many expressions it is assumed, where something is.
 fn counts_of(
     assumed: Option<AssumedOfBoth<'_>>,
     list: &[Finding],
@@ -91,13 +91,21 @@ fn counts_of(
 ) -> ListCounts
     ensures { result ≡ verdict_counts (assumption_of assumed.entry) list.now is_equivalent }
 {
-    let _assumed = assumed;
     let tally = count_verdicts(list);
-    ListCounts::Verdicts {
-        same: tally.same as u64,
-        differs: tally.differs as u64,
-        unsettled: tally.unsettled as u64,
-        is_equivalent,
+    match assumed {
+        None => ListCounts::Verdicts {
+            same: tally.same as u64,
+            differs: tally.differs as u64,
+            unsettled: tally.unsettled as u64,
+            is_equivalent,
+        },
+        Some(assumed) => ListCounts::AssumedVerdicts {
+            same: tally.same as u64,
+            differs: tally.differs as u64,
+            unsettled: tally.unsettled as u64,
+            is_equivalent,
+            assumed: assumed.expressions,
+        },
     }
 }
 

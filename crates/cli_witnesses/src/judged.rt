@@ -6,7 +6,7 @@ ghost use Rattle.scan_cycle.specs.Standing.{Fits};
 ghost use Rattle.cli_inputs.specs.Reports.{logs};
 ghost use Rattle.cli_inputs.specs.Setting.{given_by};
 ghost use Rattle.cli_diff.specs.Ending.{RefusesOf};
-ghost use Rattle.cli_verdicts.specs.Ending.{BreaksVerdicts, CountsVerdicts, HasTextFault};
+ghost use Rattle.cli_verdicts.specs.Ending.{BreaksVerdicts, CountsVerdicts, HasVerdictFault};
 ghost use Rattle.cli_witnesses.specs.Ending.{KeepsWitnesses};
 
 use cli_arguments::VerdictRequest;
@@ -114,14 +114,14 @@ pub fn judge_keeping<O: Sink, E: Sink>(
     ensures why { IfOk result (λ j. j.why ≡ texts.now.old.why) }
     ensures status { IfErr result (λ status. status ≡ 1) }
     ensures failed { (save : WriteLog) → IfErr result (λ status.
-        RefusesOf (given_by texts.now.old) (given_by texts.now.new) (HasTextFault (given_by texts.now.old) (given_by texts.now.new)) (logs (O.log out.old) save (E.log err.old)) (logs (O.log out.new) save (E.log err.new))
+        RefusesOf (given_by texts.now.old) (given_by texts.now.new) (HasVerdictFault (given_by texts.now.old) (given_by texts.now.new) request.now) (logs (O.log out.old) save (E.log err.old)) (logs (O.log out.new) save (E.log err.new))
         ⊎ BreaksVerdicts (given_by texts.now.old) (given_by texts.now.new) request.now (logs (O.log out.old) save (E.log err.old)) (logs (O.log out.new) save (E.log err.new))) }
 {
     let programs = match read_programs(alloc, texts, err) {
         Ok(programs) => programs,
         Err(status) => return Err(status),
     };
-    match judge_programs(alloc, request, texts, &programs, None, true, out, err) {
+    match judge_programs(alloc, request, texts, &programs, true, out, err) {
         Ok(kept) => Ok(Judged {
             programs,
             kept,

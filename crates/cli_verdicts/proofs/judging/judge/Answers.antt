@@ -3,6 +3,7 @@ use Rattle.io_text.specs.Log.{WriteLog}
 use Rattle.cli_inputs.specs.Reports.{logs}
 use Rattle.cli_inputs.specs.Setting.{given_by}
 use Rattle.cli_verdicts.specs.Ending.{FailsToJudge}
+use Rattle.cli_verdicts.proofs.Ends.{text_refused}
 use Rattle.cli_verdicts.proofs.judging.judge.Goals as goal
 
 pub returns-in-Ok-clause-failed : goal.returns-in-Ok-clause-failed
@@ -15,4 +16,5 @@ pub returns-in-Err-clause-done : goal.returns-in-Err-clause-done
 returns-in-Err-clause-done g c = λ zero. absurd (omega (arith, zero, c.in-Err.ensures.status))
 
 pub returns-in-Err-clause-failed : goal.returns-in-Err-clause-failed
-returns-in-Err-clause-failed g c = λ save one. inl (c.in-Err.ensures.refused (g.O.Sink.log c.args.out.now) save)
+returns-in-Err-clause-failed g c = λ save one.
+    inl (text_refused (given_by c.args.texts.now.old) (given_by c.args.texts.now.new) c.args.request.now _ _ (c.in-Err.ensures.refused (g.O.Sink.log c.args.out.now) save))

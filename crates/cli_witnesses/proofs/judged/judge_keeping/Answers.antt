@@ -1,14 +1,16 @@
-use Rattle.std.proofs.Common.{None, inl, subst, true}
+use Rattle.std.proofs.Common.{inl, subst, true}
 use Rattle.io_text.specs.Log.{PutsAll, WriteLog}
 use Rattle.cli_inputs.specs.Reports.{logs}
 use Rattle.cli_inputs.specs.Setting.{given_by}
 use Rattle.cli_questions.specs.Ending.{Ends}
-use Rattle.cli_verdicts.specs.Ending.{FailsToJudge, FindsKept}
+use Rattle.cli_verdicts.specs.Ending.{FailsToJudge, FindsAssuming}
+use Rattle.cli_verdicts.proofs.Ends.{text_refused}
 use Rattle.cli_witnesses.proofs.Kept.{counts_verdicts, keeps_witnesses}
 use Rattle.cli_witnesses.proofs.judged.judge_keeping.Goals as goal
 
 pub returns-in-Err-clause-failed : goal.returns-in-Err-clause-failed
-returns-in-Err-clause-failed g c = λ save. inl (c.in-Err.ensures.refused (g.O.Sink.log c.args.out.now) save)
+returns-in-Err-clause-failed g c = λ save.
+    inl (text_refused (given_by c.args.texts.now.old) (given_by c.args.texts.now.new) c.args.request.now _ _ (c.in-Err.ensures.refused (g.O.Sink.log c.args.out.now) save))
 
 pub returns-in-Ok-judge_programs-clause-done : goal.returns-in-Ok-judge_programs-clause-done
 returns-in-Ok-judge_programs-clause-done g c =
@@ -17,7 +19,7 @@ returns-in-Ok-judge_programs-clause-done g c =
     let kept = c.in-Ok-judge_programs.kept in
     counts_verdicts (given_by c.args.texts.now.old) (given_by c.args.texts.now.new) c.args.request.now
     (record { old = p; new = q; matching = kept.matching; witnesses = kept.witnesses.items; why = c.args.texts.now.old.why }) _ _ _ c.in-Ok.ensures.old c.in-Ok.ensures.new
-    (subst (λ (x : WriteLog). Ends (FindsKept None true c.args.request.now.reachable p q kept.matching kept.witnesses.items) c.args.request.now.quiet
+    (subst (λ (x : WriteLog). Ends (FindsAssuming (given_by c.args.texts.now.old) (given_by c.args.texts.now.new) c.args.request.now true p q kept.matching kept.witnesses.items) c.args.request.now.quiet
     (g.O.Sink.log c.args.out.now) (g.O.Sink.log c.judge_programs.new.out) (PutsAll x (g.E.Sink.log c.judge_programs.new.err)))
     c.in-Ok.ensures.unsaid c.in-Ok-judge_programs.ensures.done)
 
@@ -28,7 +30,7 @@ returns-in-Ok-judge_programs-clause-kept g c =
     let kept = c.in-Ok-judge_programs.kept in
     keeps_witnesses (given_by c.args.texts.now.old) (given_by c.args.texts.now.new) c.args.request.now
     (record { old = p; new = q; matching = kept.matching; witnesses = kept.witnesses.items; why = c.args.texts.now.old.why }) _ _ _ c.in-Ok.ensures.old c.in-Ok.ensures.new
-    (subst (λ (x : WriteLog). Ends (FindsKept None true c.args.request.now.reachable p q kept.matching kept.witnesses.items) c.args.request.now.quiet
+    (subst (λ (x : WriteLog). Ends (FindsAssuming (given_by c.args.texts.now.old) (given_by c.args.texts.now.new) c.args.request.now true p q kept.matching kept.witnesses.items) c.args.request.now.quiet
     (g.O.Sink.log c.args.out.now) (g.O.Sink.log c.judge_programs.new.out) (PutsAll x (g.E.Sink.log c.judge_programs.new.err)))
     c.in-Ok.ensures.unsaid c.in-Ok-judge_programs.ensures.done)
 
