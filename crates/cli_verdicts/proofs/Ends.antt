@@ -7,88 +7,75 @@ use Rattle.diff_matching.specs.Matching.{Matching}
 use Rattle.diff_meaning.specs.declared.witness.Witness.{Witness}
 use Rattle.io_text.specs.Log.{PutsAll, PutsPrefix, WriteLog}
 use Rattle.cli_arguments.specs.declared.request.VerdictRequest.{VerdictRequest}
-use Rattle.cli_inputs.specs.Reports.{IsReportedBy, Logs, logs}
+use Rattle.cli_inputs.specs.Reports.{IsReportedBy, logs}
 use Rattle.cli_inputs.specs.Setting.{Given}
 use Rattle.cli_inputs.specs.declared.fault.ToolFault.{ToolFault}
 use Rattle.cli_questions.specs.Ending.{Ends, counts_line, unless_quiet}
 use Rattle.cli_questions.specs.declared.counting.ListCounts.{ListCounts}
-use Rattle.cli_diff.specs.Ending.{RefusesOf}
 use Rattle.cli_assumed_both.specs.Together.{IsAssumedWhere}
-use Rattle.cli_verdicts.specs.Ending.{FailsToJudge, FailsToWrite, FindsAssuming, HasTextFault, HasVerdictFault, Judges, WritesKept, assumes_of, assumption_of}
+use Rattle.cli_verdicts.specs.Ending.{FailsToJudge, FailsToWrite, FindsAssuming, Judges, WritesKept, assumes_of, assumption_of}
 use Rattle.cli_verdicts.specs.declared.assuming.AssumedOfBoth.{AssumedOfBoth}
 use Rattle.cli_verdicts.specs.declared.writing.Kept.{Kept}
 use Rattle.cli_verdicts.specs.declared.writing.Written.{Written}
 
-module _ (g h : Given) (r : VerdictRequest) where
-  -- A fault of the texts stops the judging.
-  pub text_refused : (s t : Logs) → RefusesOf g h (HasTextFault g h) s t → RefusesOf g h (HasVerdictFault g h r) s t
-  text_refused s t refused = record {
-    side = refused.side;
-    reason = refused.reason;
-    has = inl refused.has;
-    unwritten = refused.unwritten;
-    unsaved = refused.unsaved;
-    reported = refused.reported;
+module _ (g h : Given) (r : VerdictRequest) (p q : Drawing) where
+  -- What is kept is of what was found.
+  pub ends_judged : HasProgram g.aliases g.program p → HasProgram h.aliases h.program q → (keeps : Bool) (m : Matching) (witnesses : List Witness) (o o' : WriteLog)
+      (Written : List ℕ → Type 0) → Ends (FindsAssuming g h r keeps p q m witnesses) r.quiet o o' Written → Ends (Judges g h r) r.quiet o o' Written
+  ends_judged old new keeps m witnesses o o' Written ends = record {
+    text = ends.text;
+    counts = ends.counts;
+    is = (p, q, old, new, ends.is.0, ends.is.1, ends.is.2.0);
+    put = ends.put;
+    counted = ends.counted;
   }
 
-  module _ (p q : Drawing) where
-    -- What is kept is of what was found.
-    pub ends_judged : HasProgram g.aliases g.program p → HasProgram h.aliases h.program q → (keeps : Bool) (m : Matching) (witnesses : List Witness) (o o' : WriteLog)
-        (Written : List ℕ → Type 0) → Ends (FindsAssuming g h r keeps p q m witnesses) r.quiet o o' Written → Ends (Judges g h r) r.quiet o o' Written
-    ends_judged old new keeps m witnesses o o' Written ends = record {
-      text = ends.text;
-      counts = ends.counts;
-      is = (p, q, old, new, ends.is.0, ends.is.1, ends.is.2.0);
-      put = ends.put;
-      counted = ends.counted;
-    }
+  module _ (a : Option AssumedOfBoth) (assumed : IsAssumedWhere g h (assumes_of r) p q (assumption_of a)) where
+    -- What was written is kept, once its counts are told.
+    kept_so : (keeps : Bool) (looks : ℕ) (written : Written) (o o' s s' : WriteLog) (kept : Kept)
+        → WritesKept (record { looks = looks; reachable = r.reachable; keeps = keeps; assumed = a }) p q written.kept.matching o o' written.kept.witnesses.items written.counts
+        → kept ≡ written.kept → PutsAll s s' (unless_quiet r.quiet (counts_line written.counts))
+        → Ends (FindsAssuming g h r keeps p q kept.matching kept.witnesses.items) r.quiet o o' (PutsAll s s')
+    kept_so keeps looks written o o' s s' kept wrote same told =
+        subst (λ (k : Kept). Ends (FindsAssuming g h r keeps p q k.matching k.witnesses.items) r.quiet o o' (PutsAll s s')) (sym same)
+        (record { text = wrote.0; counts = written.counts; is = (assumption_of a, assumed, wrote.1); put = wrote.2; counted = told })
 
-    module _ (a : Option AssumedOfBoth) (assumed : IsAssumedWhere g h (assumes_of r) p q (assumption_of a)) where
-      -- What was written is kept, once its counts are told.
-      kept_so : (keeps : Bool) (looks : ℕ) (written : Written) (o o' s s' : WriteLog) (kept : Kept)
+    pub ends_kept : (keeps : Bool) (looks : ℕ) (written : Written) (o o' s s' : WriteLog) (result : Result Kept ℕ)
+        → WritesKept (record { looks = looks; reachable = r.reachable; keeps = keeps; assumed = a }) p q written.kept.matching o o' written.kept.witnesses.items written.counts
+        → IfOk result (λ kept. (kept ≡ written.kept) × PutsAll s s' (unless_quiet r.quiet (counts_line written.counts)))
+        → IfOk result (λ kept. Ends (FindsAssuming g h r keeps p q kept.matching kept.witnesses.items) r.quiet o o' (PutsAll s s'))
+    ends_kept keeps looks written o o' s s' (Ok kept) wrote told = kept_so keeps looks written o o' s s' kept wrote told.0 told.1
+    ends_kept keeps looks written o o' s s' (Err status) wrote told = told
+
+    module _ (old : HasProgram g.aliases g.program p) (new : HasProgram h.aliases h.program q) where
+      -- Nothing was written, or a prefix.
+      pub broken : (f : ToolFault) (save o o' s s' : WriteLog) → FailsToWrite (assumption_of a) r.reachable p q o o' f → IsReportedBy None g s s' f
+          → FailsToJudge g h r (logs o save s) (logs o' save s')
+      broken f save o o' s s' (inl fails) said =
+          inl (record { side = None; reason = f; has = inl fails.0; unwritten = fails.1; unsaved = refl {a = save}; reported = said })
+      broken f save o o' s s' (inr fails) said = inr (inl (
+        fails.1.0,
+        (p, q, old, new, assumption_of a, assumed, fails.1.1),
+        fails.1.2,
+        subst (λ (x : ToolFault). IsReportedBy None g s s' x) fails.0 said,
+      ))
+
+      -- All was written, and the line of counts broke off.
+      uncounted : (keeps : Bool) (looks : ℕ) (m : Matching) (witnesses : List Witness) (n : ListCounts) (save o o' s s' : WriteLog)
+          → WritesKept (record { looks = looks; reachable = r.reachable; keeps = keeps; assumed = a }) p q m o o' witnesses n
+          → PutsPrefix s s' (unless_quiet r.quiet (counts_line n)) → FailsToJudge g h r (logs o save s) (logs o' save s')
+      uncounted keeps looks m witnesses n save o o' s s' written cut = inr (inr (record {
+        text = written.0;
+        counts = n;
+        is = (p, q, old, new, assumption_of a, assumed, written.1.0);
+        put = written.2;
+        counted = cut;
+      }))
+
+      pub uncounted_in : (keeps : Bool) (looks : ℕ) (written : Written) (save o o' s s' : WriteLog) (result : Result Kept ℕ)
           → WritesKept (record { looks = looks; reachable = r.reachable; keeps = keeps; assumed = a }) p q written.kept.matching o o' written.kept.witnesses.items written.counts
-          → kept ≡ written.kept → PutsAll s s' (unless_quiet r.quiet (counts_line written.counts))
-          → Ends (FindsAssuming g h r keeps p q kept.matching kept.witnesses.items) r.quiet o o' (PutsAll s s')
-      kept_so keeps looks written o o' s s' kept wrote same told =
-          subst (λ (k : Kept). Ends (FindsAssuming g h r keeps p q k.matching k.witnesses.items) r.quiet o o' (PutsAll s s')) (sym same)
-          (record { text = wrote.0; counts = written.counts; is = (assumption_of a, assumed, wrote.1); put = wrote.2; counted = told })
-
-      pub ends_kept : (keeps : Bool) (looks : ℕ) (written : Written) (o o' s s' : WriteLog) (result : Result Kept ℕ)
-          → WritesKept (record { looks = looks; reachable = r.reachable; keeps = keeps; assumed = a }) p q written.kept.matching o o' written.kept.witnesses.items written.counts
-          → IfOk result (λ kept. (kept ≡ written.kept) × PutsAll s s' (unless_quiet r.quiet (counts_line written.counts)))
-          → IfOk result (λ kept. Ends (FindsAssuming g h r keeps p q kept.matching kept.witnesses.items) r.quiet o o' (PutsAll s s'))
-      ends_kept keeps looks written o o' s s' (Ok kept) wrote told = kept_so keeps looks written o o' s s' kept wrote told.0 told.1
-      ends_kept keeps looks written o o' s s' (Err status) wrote told = told
-
-      module _ (old : HasProgram g.aliases g.program p) (new : HasProgram h.aliases h.program q) where
-        -- Nothing was written, or a prefix.
-        pub broken : (f : ToolFault) (save o o' s s' : WriteLog) → FailsToWrite (assumption_of a) r.reachable p q o o' f → IsReportedBy None g s s' f
-            → FailsToJudge g h r (logs o save s) (logs o' save s')
-        broken f save o o' s s' (inl fails) said =
-            inl (record { side = None; reason = f; has = inl fails.0; unwritten = fails.1; unsaved = refl {a = save}; reported = said })
-        broken f save o o' s s' (inr fails) said = inr (inl (
-          fails.1.0,
-          (p, q, old, new, assumption_of a, assumed, fails.1.1),
-          fails.1.2,
-          subst (λ (x : ToolFault). IsReportedBy None g s s' x) fails.0 said,
-        ))
-
-        -- All was written, and the line of counts broke off.
-        uncounted : (keeps : Bool) (looks : ℕ) (m : Matching) (witnesses : List Witness) (n : ListCounts) (save o o' s s' : WriteLog)
-            → WritesKept (record { looks = looks; reachable = r.reachable; keeps = keeps; assumed = a }) p q m o o' witnesses n
-            → PutsPrefix s s' (unless_quiet r.quiet (counts_line n)) → FailsToJudge g h r (logs o save s) (logs o' save s')
-        uncounted keeps looks m witnesses n save o o' s s' written cut = inr (inr (record {
-          text = written.0;
-          counts = n;
-          is = (p, q, old, new, assumption_of a, assumed, written.1.0);
-          put = written.2;
-          counted = cut;
-        }))
-
-        pub uncounted_in : (keeps : Bool) (looks : ℕ) (written : Written) (save o o' s s' : WriteLog) (result : Result Kept ℕ)
-            → WritesKept (record { looks = looks; reachable = r.reachable; keeps = keeps; assumed = a }) p q written.kept.matching o o' written.kept.witnesses.items written.counts
-            → IfErr result (λ status. PutsPrefix s s' (unless_quiet r.quiet (counts_line written.counts)))
-            → IfErr result (λ status. FailsToJudge g h r (logs o save s) (logs o' save s'))
-        uncounted_in keeps looks written save o o' s s' (Ok kept) wrote told = told
-        uncounted_in keeps looks written save o o' s s' (Err status) wrote told =
-            uncounted keeps looks written.kept.matching written.kept.witnesses.items written.counts save o o' s s' wrote told
+          → IfErr result (λ status. PutsPrefix s s' (unless_quiet r.quiet (counts_line written.counts)))
+          → IfErr result (λ status. FailsToJudge g h r (logs o save s) (logs o' save s'))
+      uncounted_in keeps looks written save o o' s s' (Ok kept) wrote told = told
+      uncounted_in keeps looks written save o o' s s' (Err status) wrote told =
+          uncounted keeps looks written.kept.matching written.kept.witnesses.items written.counts save o o' s s' wrote told

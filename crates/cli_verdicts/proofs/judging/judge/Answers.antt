@@ -3,7 +3,7 @@ use Rattle.io_text.specs.Log.{WriteLog}
 use Rattle.cli_inputs.specs.Reports.{logs}
 use Rattle.cli_inputs.specs.Setting.{given_by}
 use Rattle.cli_verdicts.specs.Ending.{FailsToJudge}
-use Rattle.cli_verdicts.proofs.Ends.{text_refused}
+use Rattle.cli_verdicts.proofs.Faults.{text_refused}
 use Rattle.cli_verdicts.proofs.judging.judge.Goals as goal
 
 pub returns-in-Ok-clause-failed : goal.returns-in-Ok-clause-failed

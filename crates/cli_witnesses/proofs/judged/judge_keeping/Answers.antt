@@ -4,7 +4,7 @@ use Rattle.cli_inputs.specs.Reports.{logs}
 use Rattle.cli_inputs.specs.Setting.{given_by}
 use Rattle.cli_questions.specs.Ending.{Ends}
 use Rattle.cli_verdicts.specs.Ending.{FailsToJudge, FindsAssuming}
-use Rattle.cli_verdicts.proofs.Ends.{text_refused}
+use Rattle.cli_verdicts.proofs.Faults.{text_refused}
 use Rattle.cli_witnesses.proofs.Kept.{counts_verdicts, keeps_witnesses}
 use Rattle.cli_witnesses.proofs.judged.judge_keeping.Goals as goal
 
