@@ -10,8 +10,9 @@ ghost use Rattle.cli_run_verdicts.specs.Ending.{FailsToWriteRuns, WritesKeeping,
 use crate::assuming::RunsAssuming;
 use cli_inputs::ToolFault;
 use cli_questions::ListCounts;
+use cli_verdicts::verdict_counts;
 use diagram_program::Program;
-use diff_findings::{Compared, Finding, count_verdicts, findings};
+use diff_findings::{Compared, Finding, findings};
 use diff_matching::Matching;
 use diff_meaning::{Counted, CountedStates, Verdicts};
 use diff_run_verdicts::{RunFindings, find_all, verdicts_of};
@@ -47,26 +48,7 @@ pub(crate) struct Written {
 fn counts_of(expressions: Option<u64>, list: &[Finding]) -> ListCounts
     ensures { result ≡ run_counts expressions list.now }
 {
-    let tally = count_verdicts(list);
-    let same = tally.same as u64;
-    let differs = tally.differs as u64;
-    let unsettled = tally.unsettled as u64;
-    let is_equivalent = false;
-    match expressions {
-        None => ListCounts::Verdicts {
-            same,
-            differs,
-            unsettled,
-            is_equivalent,
-        },
-        Some(assumed) => ListCounts::AssumedVerdicts {
-            same,
-            differs,
-            unsettled,
-            is_equivalent,
-            assumed,
-        },
-    }
+    verdict_counts(expressions.unwrap_or(0), list, false)
 }
 
 /// Writes findings, and counts them.

@@ -1,5 +1,5 @@
 -- How the judging of two programs ends: what was found is written, or a fault stops it.
-use Rattle.std.specs.Prelude.{◌≡◌, ◌⊎◌, ℕ, Bool, true, false, List, Option, None, Some, IfSome, Result, Ok, Err, option_map}
+use Rattle.std.specs.Prelude.{◌≡◌, ◌⊎◌, ℕ, zero, Bool, true, false, List, Option, None, Some, IfSome, Result, Ok, Err, option_map}
 use Rattle.diagram_program.specs.Program.{Drawing}
 use Rattle.diagram_reader.specs.Titled.{HasProgram}
 use Rattle.scan_cycle.specs.Standing.{fresh}
@@ -37,11 +37,14 @@ use Rattle.cli_assumed_both.specs.Together.{HasAssumedFault, IsAssumedWhere}
 use Rattle.cli_verdicts.specs.declared.assuming.AssumedOfBoth.{AssumedOfBoth}
 use Rattle.cli_verdicts.specs.declared.writing.Wanted.{Wanted}
 
--- what is counted of findings: how many expressions are assumed too, where something is
+-- what is counted of findings: how many expressions are assumed too, where any are
+abbrev pub counts_by : (expressions : ℕ) → List Finding → Bool → ListCounts
+counts_by zero list is_equivalent = counts.Verdicts (tally_of list).same (tally_of list).differs (tally_of list).unsettled is_equivalent
+counts_by n list is_equivalent = counts.AssumedVerdicts (tally_of list).same (tally_of list).differs (tally_of list).unsettled is_equivalent n
+
 abbrev pub verdict_counts : Option Assumption → List Finding → Bool → ListCounts
-verdict_counts None list is_equivalent = counts.Verdicts (tally_of list).same (tally_of list).differs (tally_of list).unsettled is_equivalent
-verdict_counts (Some a) list is_equivalent =
-    counts.AssumedVerdicts (tally_of list).same (tally_of list).differs (tally_of list).unsettled is_equivalent a.expressions
+verdict_counts None list is_equivalent = counts_by 0 list is_equivalent
+verdict_counts (Some a) list is_equivalent = counts_by a.expressions list is_equivalent
 
 -- what is assumed of the inputs of both programs, where something is: an expression over those of each, in order of declaration
 abbrev pub assumed_in : Option Assumption → Drawing → Drawing → BothAssumed

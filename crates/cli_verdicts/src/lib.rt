@@ -11,4 +11,4 @@ mod writing;
 pub use files::judge_files;
 pub use judging::{judge, judge_programs};
 pub use reading::{Programs, read_programs};
-pub use writing::Kept;
+pub use writing::{Kept, verdict_counts};

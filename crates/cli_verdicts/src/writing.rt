@@ -10,7 +10,7 @@ ghost use Rattle.diff_meaning.specs.Counting.{StayFromFresh};
 ghost use Rattle.diff_meaning.specs.Verdicts.{AreTrue};
 ghost use Rattle.diff_meaning.specs.Witnesses.{AreWitnesses};
 ghost use Rattle.diff_findings.specs.Findings.{findings as findings_list};
-ghost use Rattle.cli_verdicts.specs.Ending.{AreCounted, FailsToWrite, WritesJudged, WritesKept, assumed_in, assumption_of, verdict_counts};
+ghost use Rattle.cli_verdicts.specs.Ending.{AreCounted, FailsToWrite, WritesJudged, WritesKept, assumed_in, assumption_of, counts_by, verdict_counts};
 
 use crate::assuming::{AssumedOfBoth, InputsOfBoth, assumptions, inputs_of_both};
 use crate::counting::counted_of;
@@ -83,7 +83,32 @@ fn judged(
     judge_all(alloc, &mut judge, wanted.looks, wanted.keeps)
 }
 
-/// What is counted of findings, and of how many expressions it is assumed, where something is.
+/// What is counted of findings, and how many expressions are assumed, where any are.
+pub fn verdict_counts(expressions: u64, list: &[Finding], is_equivalent: bool) -> ListCounts
+    ensures { result ≡ counts_by expressions list.now is_equivalent }
+{
+    let tally = count_verdicts(list);
+    let same = tally.same as u64;
+    let differs = tally.differs as u64;
+    let unsettled = tally.unsettled as u64;
+    match expressions {
+        0 => ListCounts::Verdicts {
+            same,
+            differs,
+            unsettled,
+            is_equivalent,
+        },
+        assumed => ListCounts::AssumedVerdicts {
+            same,
+            differs,
+            unsettled,
+            is_equivalent,
+            assumed,
+        },
+    }
+}
+
+/// The same of what is assumed, where something is.
 fn counts_of(
     assumed: Option<AssumedOfBoth<'_>>,
     list: &[Finding],
@@ -91,21 +116,9 @@ fn counts_of(
 ) -> ListCounts
     ensures { result ≡ verdict_counts (assumption_of assumed.entry) list.now is_equivalent }
 {
-    let tally = count_verdicts(list);
     match assumed {
-        None => ListCounts::Verdicts {
-            same: tally.same as u64,
-            differs: tally.differs as u64,
-            unsettled: tally.unsettled as u64,
-            is_equivalent,
-        },
-        Some(assumed) => ListCounts::AssumedVerdicts {
-            same: tally.same as u64,
-            differs: tally.differs as u64,
-            unsettled: tally.unsettled as u64,
-            is_equivalent,
-            assumed: assumed.expressions,
-        },
+        None => verdict_counts(0, list, is_equivalent),
+        Some(assumed) => verdict_counts(assumed.expressions, list, is_equivalent),
     }
 }
 
