@@ -1,7 +1,7 @@
 #!/usr/bin/env python3
 """Tries the mutants that the gate leaves out: mutants.py [--where] [CRATE]...
 
-The gate has those of blocks, searches and runs (crates/*/must-fail); those of tests/mutants turn what
+The gate has that of a run that is replayed (crates/*/must-fail); those of tests/mutants turn what
 a case of the gate, another mutant or a crate above carries too. Each must be refused as well. Needs the toolchain; half a minute each over a crate that `rt check`
 has proved, and all crates where none is named. With `--where` only that the text that each turns stands in its file once, and that of each wrong body.
 """

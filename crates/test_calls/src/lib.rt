@@ -1,11 +1,16 @@
 //! Tests of the public calls below the command line, over readers and writers in memory, and the names that callers are promised.
 #![tactic(auto)]
 
+#[cfg(test)]
 mod causes;
 pub mod memory;
+#[cfg(test)]
 mod order;
+#[cfg(test)]
 mod runs;
+#[cfg(test)]
 mod scans;
 pub mod surface;
 mod table;
+#[cfg(test)]
 mod texts;
