@@ -3,8 +3,8 @@
 
 Each request below is first made whole, which counts its growths (refuse_growth.c, loaded before the C library), and then once for
 each of them, with that one refused. A request is answered whole in spite of it, or it ends by one of the lines for being out of
-memory, with nothing written but whole lines of a trace, and nothing saved; a row that is asked of the runs may also be left open, and states
-that show a difference are saved after all rows. The last record of long.csv is longer than the ones before it, so memory grows in the middle
+memory, with nothing written but whole lines of a trace, and nothing saved; a row that is asked of the runs may also be left open, states
+that show a difference are saved after all rows, and whether an expression is always true is asked after them too. The last record of long.csv is longer than the ones before it, so memory grows in the middle
 of its trace. Then a list with all its rows must make as many growths as the same list with none, and one
 must come whole where each growth after its cursor is made is refused.
 Without a C compiler the toolchain's own is taken; where there is none at all, nothing is tried, and the last line says so.
@@ -59,12 +59,14 @@ REQUESTS = (
     (("causes", "--any", "--reachable", "motor.ld", "Motor", "Start", "Stop"), LINES),
     (("causes", "--any", "--grouped", "motor.ld", "Motor", "Start", "Stop"), LINES),
     (("causes", "--any", "--runs", "motor.ld", "Motor", "Start", "Stop"), LINES),
+    (("causes", "--any", "--runs", "--assume", "NOT Stop", "motor.ld", "Motor", "Start", "Stop"), LINES),
     (("causes", "--any", "--assumed", "assumed.ld", "Motor", "Start", "Stop"), LINES),
     (("causes", "--any", "--grouped", "--assume", "Start OR NOT Stop", "motor.ld", "Motor", "Start", "Stop"), LINES),
     (("causes", "--grouped", "--state", "running.csv", "motor.ld", "Motor", "Start", "Stop"), LINES),
     (("causes", "--grouped", "--st", "--order", "auto", "motor.ld", "Motor", "Start", "Stop"), LINES),
     (("causes", "--grouped", "--scans", "3", "--state", "running.csv", "motor.ld", "Motor", "Start", "Stop"), LINES),
     (("show", "--state", "running.csv", "--number", "2", "motor.ld", "Start", "Stop"), LINES),
+    (("show", "--assumed", "assumed.ld", "Start", "Stop"), ("fault V9\n", "fault X7\n")),
     (("show", "--stimulus", "back.csv", "motor.ld"), ("fault V9\n", "fault X7\n")),
     (("show", "--html", "--coil", "Motor", "--stimulus", "back.csv", "motor.ld"), ("fault V9\n", "fault X7\n")),
     (("sim", "motor.ld", "back.csv"), ("fault V9\n", "fault X7\n")),
@@ -80,7 +82,9 @@ REQUESTS = (
     (("diff", "--scans", "3", "--state", "running.csv", "motor.ld", "motor.ld", "Motor", "Start", "Stop"), BOTH),
     (("diff", "motor.ld", "counter.ld"), ("fault old V9\n", "fault new V9\n", "fault X7\n")),
     (("diff", "--reachable", "motor.ld", "counter.ld"), ("fault old V9\n", "fault new V9\n", "fault X7\n")),
+    (("diff", "--assume", "NOT Stop", "motor.ld", "either.ld"), ("fault old V9\n", "fault new V9\n", "fault X7\n")),
     (("diff", "--runs", "motor.ld", "either.ld"), ("fault old V9\n", "fault new V9\n", "fault X7\n")),
+    (("diff", "--runs", "--assumed", "assumed.ld", "either.ld"), ("fault old V9\n", "fault new V9\n", "fault X7\n")),
     (("diff", "--quiet", "--save", "states", "motor.ld", "either.ld"), ("fault old V9\n", "fault new V9\n", "fault X7\n")),
     (("reach", "--state", "running.csv", "motor.ld", "Motor", "Start"), ("fault V9\n", "fault X7\n")),
     (("reach", "--assumed", "--state", "running.csv", "assumed.ld", "Motor"), ("fault V9\n", "fault X7\n")),
@@ -125,7 +129,14 @@ def is_left_open(words, whole, ending):
     rows = list(zip(whole.out.splitlines(), ending.out.splitlines()))
     is_same = ending.out.count("\n") == whole.out.count("\n") and all(left in (row, row.replace(",r,", ",1,")) for row, left in rows)
     unsettled = sum(",r," not in row for row in ending.out.splitlines()[1:])
-    return "--runs" in words and is_same and ending.status == 0 and ending.err == f"rows {len(rows) - 1} unsettled {unsettled}\n"
+    counts = f"rows {len(rows) - 1} unsettled {unsettled}"
+    return "--runs" in words and is_same and ending.status == 0 and ending.err in (counts + "\n", counts + " assumed 1\n")
+
+
+def is_unwarned(words, whole, ending):
+    """Whether all rows and counts are there, and what is assumed isn't asked to the end whether it is always true."""
+    is_assumed = any(word in ("--assume", "--assumed") for word in words)
+    return is_assumed and ending.status == 1 and ending.out == whole.out and any(ending.err == whole.err + line for line in LINES)
 
 
 def tried(program, library, words, wanted, counted):
@@ -135,8 +146,8 @@ def tried(program, library, words, wanted, counted):
     with ThreadPoolExecutor(os.cpu_count()) as pool:
         endings = list(pool.map(lambda number: ended(program, library, words, number), range(1, growths + 1)))
     wrong = [f"{' '.join(words)}, growth {number}: {ending}"
-             for number, ending in enumerate(endings, 1) if ending != whole and not any(is_so(words, whole, ending) for is_so in (is_refused, is_unsaved, is_left_open))]
-    lines = collections.Counter(ending.err for ending in endings if ending != whole)
+             for number, ending in enumerate(endings, 1) if ending != whole and not any(is_so(words, whole, ending) for is_so in (is_refused, is_unsaved, is_left_open, is_unwarned))]
+    lines = collections.Counter("".join(ending.err.splitlines(keepends=True)[-1:]) for ending in endings if ending != whole)
     wrong += [f"{' '.join(words)}: {line.strip()} never comes" for line in wanted if not lines[line]]
     if "long.csv" in words and not any(ending.out for ending in endings if ending != whole):
         wrong.append(f"{' '.join(words)}: no growth is refused in the middle of the trace")
