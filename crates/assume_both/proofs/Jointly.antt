@@ -6,7 +6,7 @@ use Rattle.std.proofs.lemmas.Bool.{eq-eqb}
 use Rattle.std.proofs.lemmas.Bool.Decides.{nat_tests}
 use Rattle.std.proofs.lemmas.List.{drop_all, get_or-append-add, get_or_append_left, length-map}
 use Rattle.std.proofs.lemmas.List.FromFn.{get_or-map-range_with_len, length-map-range_with_len}
-use Rattle.std.proofs.lemmas.Option.{get_or_from_slice_get, slice_get-get_or, slice_get_past, slice_get_within}
+use Rattle.std.proofs.lemmas.Option.{get_or_from_slice_get, slice_get_within}
 use Rattle.diagram_declarations.specs.Decls.{is_input}
 use Rattle.diagram_program.specs.Program.{Drawing}
 use Rattle.assume_truth.specs.Truth.{is_allowed}
@@ -14,7 +14,7 @@ use Rattle.assume_places.specs.Places.{IsJoint, values_at}
 use Rattle.invariant_cases.specs.Assuming.{Assumed, stored_inputs}
 use Rattle.diff_matching.specs.declared.matching.Pair.{Pair}
 use Rattle.diff_matching.specs.Matching.{AreSame, Matching}
-use Rattle.diff_matching.specs.Suited.{AreBoth, AreOnce, IsSuited}
+use Rattle.diff_matching.specs.Suited.{AreOnce, IsSuited}
 use Rattle.st_expression.specs.declared.expression.Expression.{Expression}
 use Rattle.assume_both.specs.Both.{AreVariablesOf, CannotBeTrueInBoth, MayBeTrueInBoth, joint_number}
 

@@ -1,5 +1,5 @@
 -- What a request of two programs assumes of their inputs, and how that is refused.
-use Rattle.std.specs.Prelude.{◌≡◌, ◌⊎◌, ◌==◌, ◌&&◌, not, ℕ, Bool, true, false, Option, None, Some, length}
+use Rattle.std.specs.Prelude.{◌≡◌, ◌⊎◌, ◌==◌, ◌&&◌, not, Bool, true, false, Option, None, Some, length}
 use Rattle.diagram_program.specs.Program.{Drawing}
 use Rattle.invariant_cases.specs.Assuming.{Assumed}
 use Rattle.invariant_sets.specs.Invariants.{input_numbers}

@@ -363,7 +363,7 @@ END_VAR is true in its program";
 
 pub(crate) const SHOW_ASSUME_HELP: &str = "Refuses a combination with which EXPRESSION, in
 Structured Text over inputs, is false, and names it
-above the drawing; may be given several times; not
+below the drawing; may be given several times; not
 with --html or --stimulus";
 
 pub(crate) const SHOW_ASSUMED_HELP: &str = "The same for each EXPRESSION of the comments

@@ -14,6 +14,3 @@ pub use expression::{Expression, Operand};
 pub use fault::ReadFault;
 pub use reading::{DEPTH, read_expression};
 pub use token::Token;
-
-#[cfg(test)]
-mod tests;
