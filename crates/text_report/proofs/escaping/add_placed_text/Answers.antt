@@ -1,0 +1,10 @@
+use Rattle.std.proofs.Common.{refl}
+use Rattle.text_report.specs.Report.{placed}
+use Rattle.text_report.proofs.Adding.{adds_more, adds_none}
+use Rattle.text_report.proofs.escaping.add_placed_text.Goals as goal
+
+pub loop-b-init : goal.loop-b-init
+loop-b-init c = adds_none _
+
+pub loop-b-preserved : goal.loop-b-preserved
+loop-b-preserved c = adds_more (placed c.args.form) c.args.text.now c.loop-b.b-index _ _ _ _ _ c.loop-b-test.true refl c.loop-b.invariant c.add_placed.ensures

@@ -1,0 +1,8 @@
+use Rattle.std.proofs.Common.{take}
+use Rattle.std.specs.List.{flat_map}
+use Rattle.text_report.specs.Adding.{Adds}
+use Rattle.text_report.specs.Report.{placed}
+use Rattle.text_report.proofs.escaping.add_placed_text.Given as goal
+
+abbrev pub invariant-loop-b : goal.invariant-loop-b
+invariant-loop-b l = Adds l.fn.page l.page (flat_map (placed l.form) (take l.b-index l.text))
