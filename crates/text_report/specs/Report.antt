@@ -10,7 +10,6 @@ use Rattle.text_report.specs.Marks.{mark_in}
 use Rattle.text_report.specs.declared.part.Body.{Body}
 use Rattle.text_report.specs.declared.part.Body.TheVariants.{Text, Records}
 use Rattle.text_report.specs.declared.part.Part.{Part}
-use Rattle.text_report.specs.declared.head.Fact.{Fact}
 use Rattle.text_report.specs.declared.head.Head.{Head}
 use Rattle.text_report.specs.declared.head.TheConstants.{MARKDOWN_TAIL, PAGE_OPENING, PAGE_STYLE, PAGE_TAIL}
 
@@ -80,17 +79,26 @@ rows_text form ticked (names ∷ rows) = heading_row form ticked names ++ flat_m
 
 -- ---- parts
 
--- a text whose characters have their places, or a table of records
+-- a text whose characters have their places
+abbrev pub text_body : Form → List ℕ → List ℕ
+text_body form text = mark_in form mark.TextBegin ++ (placed_text form text ++ mark_in form mark.TextEnd)
+
+-- a table of records
+abbrev pub records_body : Form → Bool → List Fields → List ℕ
+records_body form ticked rows = mark_in form mark.TableBegin ++ (rows_text form ticked rows ++ mark_in form mark.TableEnd)
+
 abbrev pub body_text : Form → Body → List ℕ
-body_text form (Text text) = mark_in form mark.TextBegin ++ (placed_text form text.now ++ mark_in form mark.TextEnd)
-body_text form (Records rows ticked) =
-    mark_in form mark.TableBegin ++ (rows_text form ticked (map fields_of rows.now) ++ mark_in form mark.TableEnd)
+body_text form (Text text) = text_body form text.now
+body_text form (Records rows ticked) = records_body form ticked (map fields_of rows.now)
 
 -- A part: its heading, what is said of it, and its body.
+abbrev pub part_with : Form → List ℕ → List ℕ → List ℕ → List ℕ
+part_with form heading sentence body =
+    mark_in form mark.HeadingBegin ++ (escaped_text form heading ++ (mark_in form mark.HeadingEnd
+    ++ (escaped_text form sentence ++ (mark_in form mark.SentenceEnd ++ (body ++ mark_in form mark.PartEnd)))))
+
 abbrev pub part_text : Form → Part → List ℕ
-part_text form part =
-    mark_in form mark.HeadingBegin ++ (escaped_text form part.heading.now ++ (mark_in form mark.HeadingEnd
-    ++ (escaped_text form part.sentence.now ++ (mark_in form mark.SentenceEnd ++ (body_text form part.body ++ mark_in form mark.PartEnd)))))
+part_text form part = part_with form part.heading.now part.sentence.now (body_text form part.body)
 
 -- ---- the head and the end
 
@@ -138,15 +146,16 @@ abbrev pub title_text : Form → Head → List ℕ
 title_text Page head = page_title head
 title_text Markdown head = markdown_title head.title.now
 
--- a fact: its name, and what it is
-abbrev pub fact_text : Form → Fact → List ℕ
-fact_text form fact =
-    mark_in form mark.FactBegin ++ (escaped_text form fact.name.now ++ (mark_in form mark.FactMiddle ++ (escaped_text form fact.value.now ++ mark_in form mark.FactEnd)))
-
--- The title, and then facts.
 abbrev pub head_text : Form → Head → List ℕ
-head_text form head =
-    title_text form head ++ (mark_in form mark.FactsBegin ++ (flat_map (fact_text form) head.facts.now ++ mark_in form mark.FactsEnd))
+head_text form head = title_text form head ++ mark_in form mark.FactsBegin
+
+-- a fact: its name, and what it is
+abbrev pub fact_text : Form → List ℕ → List ℕ → List ℕ
+fact_text form name value =
+    mark_in form mark.FactBegin ++ (escaped_text form name ++ (mark_in form mark.FactMiddle ++ (escaped_text form value ++ mark_in form mark.FactEnd)))
+
+abbrev pub facts_end : Form → List ℕ
+facts_end form = mark_in form mark.FactsEnd
 
 -- Lines for names, dates and signatures.
 abbrev pub tail_text : Form → List ℕ

@@ -1,9 +1,8 @@
 //! The head of a report, and its end.
 
 ghost use Rattle.text_report.specs.Adding.{Adds};
-ghost use Rattle.text_report.specs.Report.{fact_text, head_text, is_plain, margin, margins, markdown_title, page_title, quoted, quoted_text, tail_text, title_text};
+ghost use Rattle.text_report.specs.Report.{fact_text, facts_end, head_text, is_plain, margin, margins, markdown_title, page_title, quoted, quoted_text, tail_text, title_text};
 ghost use Rattle.std.specs.Prelude.{◌≡◌};
-ghost use Rattle.std.specs.List.{flat_map};
 
 use crate::escaping::add_text;
 use crate::form::Form;
@@ -61,13 +60,6 @@ const MARKDOWN_TAIL: &[u8] = b"## Signatures
 | Accepted by | | | |
 ";
 
-/// Something that is said of the program: its name, and what it is.
-#[derive(Clone, Copy)]
-pub struct Fact<'a> {
-    pub name: &'a [u8],
-    pub value: &'a [u8],
-}
-
 /// The head of a report.
 #[derive(Clone, Copy)]
 pub struct Head<'a> {
@@ -79,8 +71,6 @@ pub struct Head<'a> {
     pub digest: &'a [u8],
     /// The program that writes the report.
     pub writer: &'a [u8],
-    /// What is said first.
-    pub facts: &'a [Fact<'a>],
 }
 
 /// Whether the character stands for itself in a style.
@@ -166,33 +156,29 @@ fn add_title(page: &mut Table<u8>, form: Form, head: Head<'_>)
     }
 }
 
-/// Adds a fact.
-fn add_fact(page: &mut Table<u8>, form: Form, fact: Fact<'_>)
-    ensures { Adds page.old page.new (fact_text form fact.entry) }
-{
-    add_mark(page, form, Mark::FactBegin);
-    add_text(page, form, fact.name);
-    add_mark(page, form, Mark::FactMiddle);
-    add_text(page, form, fact.value);
-    add_mark(page, form, Mark::FactEnd);
-}
-
-/// Adds facts.
-fn add_facts(page: &mut Table<u8>, form: Form, facts: &[Fact<'_>])
-    ensures { Adds page.old page.new (flat_map (fact_text form) facts.now) }
-{
-    for fact in facts {
-        add_fact(page, form, *fact);
-    }
-}
-
-/// Begins a report.
+/// Begins a report: its title, and what comes before its facts.
 pub fn add_head(page: &mut Table<u8>, form: Form, head: Head<'_>)
     ensures { Adds page.old page.new (head_text form head.entry) }
 {
     add_title(page, form, head);
     add_mark(page, form, Mark::FactsBegin);
-    add_facts(page, form, head.facts);
+}
+
+/// Adds a fact: its name, and what it is.
+pub fn add_fact(page: &mut Table<u8>, form: Form, name: &[u8], value: &[u8])
+    ensures { Adds page.old page.new (fact_text form name.now value.now) }
+{
+    add_mark(page, form, Mark::FactBegin);
+    add_text(page, form, name);
+    add_mark(page, form, Mark::FactMiddle);
+    add_text(page, form, value);
+    add_mark(page, form, Mark::FactEnd);
+}
+
+/// Ends the facts.
+pub fn end_facts(page: &mut Table<u8>, form: Form)
+    ensures { Adds page.old page.new (facts_end form) }
+{
     add_mark(page, form, Mark::FactsEnd);
 }
 

@@ -10,6 +10,6 @@ mod rows;
 mod table;
 
 pub use form::Form;
-pub use head::{Fact, Head, add_head, add_tail};
+pub use head::{Head, add_fact, add_head, add_tail, end_facts};
 pub use part::{Body, Part, add_part};
 pub use rows::read_rows;
