@@ -5,12 +5,9 @@
 mod causes;
 pub mod memory;
 #[cfg(test)]
-mod order;
-#[cfg(test)]
 mod runs;
 #[cfg(test)]
 mod scans;
 pub mod surface;
-mod table;
 #[cfg(test)]
 mod texts;
