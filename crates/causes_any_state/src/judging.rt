@@ -26,7 +26,7 @@ use scan_signals::Tri;
 use st_expression::Expression;
 
 /// What is settled of a number.
-#[derive(Clone, Copy, Debug, PartialEq, Eq)]
+#[derive(Clone, Copy, PartialEq, Eq)]
 pub(crate) enum Verdict {
     /// No state leaves the coil at the sought value with it.
     Never,

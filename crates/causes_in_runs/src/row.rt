@@ -1,7 +1,7 @@
 //! A row of causes that were asked of the runs.
 
 /// What is known of the runs to a number.
-#[derive(Clone, Copy, Debug, PartialEq, Eq)]
+#[derive(Clone, Copy, PartialEq, Eq)]
 pub enum Reached {
     /// A run comes to it.
     Run,
@@ -12,7 +12,7 @@ pub enum Reached {
 }
 
 /// A row: the number of an assignment, and what is known of the runs to it.
-#[derive(Clone, Copy, Debug, PartialEq, Eq)]
+#[derive(Clone, Copy, PartialEq, Eq)]
 pub struct RunCause {
     pub number: u64,
     pub reached: Reached,

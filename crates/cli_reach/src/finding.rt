@@ -18,7 +18,7 @@ use scan_cycle::Memory;
 use std::alloc::Global;
 
 /// What is found of a question, with the number of scans of a run.
-#[derive(Clone, Copy, Debug, PartialEq, Eq)]
+#[derive(Clone, Copy, PartialEq, Eq)]
 pub enum Found {
     /// A run of so many scans.
     Run(u64),

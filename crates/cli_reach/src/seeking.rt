@@ -15,7 +15,7 @@ use reach_search::{Limits, MOST_STEPS, Searching, Sought};
 use std::alloc::Global;
 
 /// Why a search that tells how far it is has no answer.
-#[derive(Clone, Copy, Debug, PartialEq, Eq)]
+#[derive(Clone, Copy, PartialEq, Eq)]
 pub(crate) enum SearchFault {
     /// It is out of memory.
     Memory,

@@ -14,7 +14,7 @@ use invariant_cases::Answer;
 use scan_signals::Tri;
 
 /// Whether it is settled, and how many looks are left.
-#[derive(Clone, Copy, Debug, PartialEq, Eq)]
+#[derive(Clone, Copy, PartialEq, Eq)]
 pub struct Search {
     pub is_settled: bool,
     pub looks: u32,

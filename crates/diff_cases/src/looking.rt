@@ -38,7 +38,7 @@ pub struct AlikeQuestion<'a> {
 }
 
 /// What scans over three values tell of the target.
-#[derive(Clone, Copy, Debug, PartialEq, Eq)]
+#[derive(Clone, Copy, PartialEq, Eq)]
 pub enum Likeness {
     Alike,
     Different,

@@ -14,14 +14,14 @@ use scan_cycle::scene::instance;
 use std::alloc::Global;
 
 /// One of the two programs.
-#[derive(Clone, Copy, Debug, PartialEq, Eq)]
+#[derive(Clone, Copy, PartialEq, Eq)]
 pub(crate) enum Side {
     Old,
     New,
 }
 
 /// A point of one of them.
-#[derive(Clone, Copy, Debug, PartialEq, Eq)]
+#[derive(Clone, Copy, PartialEq, Eq)]
 pub(crate) struct Chosen {
     pub(crate) side: Side,
     pub(crate) point: Point,

@@ -9,7 +9,7 @@ use scan_partial::Keep;
 use scan_signals::{Stored, Tri};
 
 /// Of an instance in a scan: it made no step yet, or one by these inputs, or that isn't known.
-#[derive(Clone, Copy, Debug, PartialEq, Eq)]
+#[derive(Clone, Copy, PartialEq, Eq)]
 pub enum Trace {
     Unstepped,
     Stepped { first: Tri, second: Tri },
@@ -17,7 +17,7 @@ pub enum Trace {
 }
 
 /// What is known of an instance, and of its step in a scan.
-#[derive(Clone, Copy, Debug, PartialEq, Eq)]
+#[derive(Clone, Copy, PartialEq, Eq)]
 pub struct Traced {
     pub outcome: Outcome,
     pub trace: Trace,

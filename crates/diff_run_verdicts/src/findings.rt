@@ -20,7 +20,7 @@ use scan_cycle::Memory;
 use std::alloc::{AllocError, Global};
 
 /// What searches found of two programs: of each pair of variables and of each pair of instances, in the order of what belongs together.
-#[derive(Debug, Drop)]
+#[derive(Drop)]
 pub struct RunFindings {
     pub variables: Vec<RunDifference>,
     pub instances: Vec<RunDifference>,

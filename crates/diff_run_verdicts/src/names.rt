@@ -8,7 +8,7 @@ use diff_matching::{Matching, Pair};
 use diff_runs::TwoSymbols;
 
 /// What has a name, and is judged: variables that are no inputs, and instances.
-#[derive(Clone, Copy, Debug)]
+#[derive(Clone, Copy)]
 pub enum NameSort {
     Variables,
     Instances,

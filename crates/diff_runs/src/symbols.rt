@@ -9,7 +9,7 @@ use diagram_declarations::Symbol;
 use diff_matching::{Matching, Pair};
 
 /// Two variables, or two instances, of which the outputs are meant: one of OLD, and one of NEW.
-#[derive(Clone, Copy, Debug)]
+#[derive(Clone, Copy)]
 pub struct TwoSymbols {
     pub old: Symbol,
     pub new: Symbol,

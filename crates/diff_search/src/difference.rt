@@ -3,7 +3,7 @@
 use reach_runs::RunScan;
 
 /// Runs of two programs that show a difference: at the same moments one scan of each.
-#[derive(Debug, Drop)]
+#[derive(Drop)]
 pub struct TwoRuns {
     /// What the last scan leaves of the symbol of the old program. It leaves the other value of the symbol of the new one.
     pub value: bool,
@@ -12,7 +12,7 @@ pub struct TwoRuns {
 }
 
 /// What is known of a difference of two symbols in runs from the fresh states.
-#[derive(Debug, Drop)]
+#[derive(Drop)]
 pub enum RunDifference {
     /// These runs show it.
     Shown(TwoRuns),

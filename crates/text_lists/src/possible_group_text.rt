@@ -17,7 +17,7 @@ use search_groups::ClassGroup;
 use text_causes::{add_header, is_reached};
 
 /// How much of a list of what is possible, or forced, was written in groups.
-#[derive(Clone, Copy, Debug, PartialEq, Eq)]
+#[derive(Clone, Copy, PartialEq, Eq)]
 pub struct PossibleGroupSummary {
     /// The rows after the header.
     pub rows: u64,

@@ -17,7 +17,7 @@ use text_causes::{DIGITS, ROW, add_header, fill_end, is_reached};
 const END: usize = ROW - DIGITS;
 
 /// How many rows there are, and to how many of them no run is known.
-#[derive(Clone, Copy, Debug, PartialEq, Eq)]
+#[derive(Clone, Copy, PartialEq, Eq)]
 pub struct RunSummary {
     pub rows: u64,
     pub unsettled: u64,
