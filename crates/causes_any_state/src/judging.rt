@@ -4,8 +4,8 @@ ghost use Rattle.std.specs.Prelude.{◌≡◌, ◌+◌, ◌<◌, ◌%◌, ◌^�
 ghost use Rattle.causes_query.specs.Listable.{IsListable};
 ghost use Rattle.invariant_sets.specs.Never.{knowing};
 ghost use Rattle.scan_partial.specs.Sizes.{AreAsLong};
-ghost use Rattle.causes_any_state.specs.Numbers.{IsBegun, MayKnowCoil, NoneLeaves};
-ghost use Rattle.causes_any_state.specs.Possible.{AreStatesOf, SomeLeaves, SomeLeavesBy, set_in};
+ghost use Rattle.causes_any_state.specs.Numbers.{IsBegun, MayKnowCoil, NoneLeavesBy};
+ghost use Rattle.causes_any_state.specs.Possible.{AreStatesOf, SomeLeavesBy, set_in};
 ghost use Rattle.causes_any_state.specs.Searching.{IsKnowing, AreStateBuffers};
 ghost use Rattle.causes_any_state.specs.declared.judging.Verdict.TheVariants.{Never, Found};
 
@@ -13,14 +13,15 @@ use crate::before::Before;
 use crate::buffers::StateBuffers;
 use crate::numbers::give;
 use crate::query::{Knowing, StateQuery};
-use crate::seeking::seek;
+use crate::seeking::{assumption_of, seek};
 use crate::states::pairs;
 use diagram_declarations::Symbol;
 use invariant_cases::cases::settle;
-use invariant_cases::laws::settled_both;
+use invariant_cases::laws::settled_assuming;
 use invariant_cases::pinning::pin;
-use invariant_cases::{Assumption, Outcome, Pair, Point, Question};
+use invariant_cases::{Outcome, Pair, Point, Question};
 use invariant_sets::knowing::know;
+use invariant_sets::laws::allowed_where_given;
 use scan_partial::Knowledge;
 use scan_signals::Tri;
 use st_expression::Expression;
@@ -28,7 +29,7 @@ use st_expression::Expression;
 /// What is settled of a number.
 #[derive(Clone, Copy, PartialEq, Eq)]
 pub(crate) enum Verdict {
-    /// No state leaves the coil at the sought value with it.
+    /// No state with which what is assumed is true leaves the coil at the sought value with it.
     Never,
     /// Some state does, with which what is assumed is true.
     Found,
@@ -82,10 +83,11 @@ fn begin(asked: StateQuery<'_>, open_bits: u32, space: &mut StateBuffers)
     know_coil(asked, &mut known.buffers.case);
 }
 
-/// Whether at most so many scans settle that no state leaves the coil at the sought value with the number, whatever its last bits are, which
-/// are open.
-pub(crate) fn is_never(
-    asked: StateQuery<'_>,
+/// Whether at most so many scans settle that no state with which what is assumed is true leaves the coil at the sought value with the number,
+/// whatever its last bits are, which are open.
+pub(crate) fn is_never<'a>(
+    asked: StateQuery<'a>,
+    assumed: Option<&'a Expression>,
     open_bits: u32,
     space: &mut StateBuffers,
     scans: u32,
@@ -95,16 +97,17 @@ pub(crate) fn is_never(
     requires states { AreStatesOf asked.program.now asked.states.now }
     requires space { AreStateBuffers asked.program.now space.old }
     ensures never { result ≡ true
-        → NoneLeaves asked.entry.program.now asked.entry.coil asked.entry.listed.now asked.entry.states.now asked.entry.sought asked.entry.number (asked.entry.number + 2 ^ open_bits) }
+        → NoneLeavesBy (option_map (λ e. e.now) assumed.entry) asked.entry.program.now asked.entry.coil asked.entry.listed.now asked.entry.states.now asked.entry.sought asked.entry.number (asked.entry.number + 2 ^ open_bits) }
     ensures space { AreStateBuffers asked.entry.program.now space.new }
 {
-    settled_both(asked.program);
+    settled_assuming(asked.program);
+    allowed_where_given(asked.program);
     begin(asked, open_bits, space);
     // A pair of the coil with itself is ON where the coil is.
     let question = Question {
         program: asked.program,
         writers: &space.knowing.writers,
-        assumption: Assumption::nothing(),
+        assumption: assumption_of(assumed, &space.sight.inputs),
         pairs: pairs(asked.states),
         target: Pair::of_itself(Symbol::Var(asked.coil)),
         wanted: !asked.sought,
@@ -137,11 +140,11 @@ pub(crate) fn judge(
     requires listable { IsListable asked.program.now asked.coil asked.listed.now }
     requires states { AreStatesOf asked.program.now asked.states.now }
     requires space { AreStateBuffers asked.program.now space.old }
-    ensures never { result ≡ Never → SomeLeaves asked.entry.program.now asked.entry.coil asked.entry.listed.now asked.entry.states.now asked.entry.sought asked.entry.number → ⊥ }
+    ensures never { result ≡ Never → SomeLeavesBy (option_map (λ e. e.now) assumed.entry) asked.entry.program.now asked.entry.coil asked.entry.listed.now asked.entry.states.now asked.entry.sought asked.entry.number → ⊥ }
     ensures found { result ≡ Found → SomeLeavesBy (option_map (λ e. e.now) assumed.entry) asked.entry.program.now asked.entry.coil asked.entry.listed.now asked.entry.states.now asked.entry.sought asked.entry.number }
     ensures space { AreStateBuffers asked.entry.program.now space.new }
 {
-    if is_never(asked, 0, space, asked.looks) {
+    if is_never(asked, assumed, 0, space, asked.looks) {
         return Verdict::Never;
     }
     if finds(asked, assumed, space) {

@@ -1,6 +1,7 @@
 //! The search for a state that leaves the coil at the sought value.
 
 ghost use Rattle.std.specs.Prelude.{◌≡◌, ◌<◌, ◌≤◌, IsTrue, length, option_map};
+ghost use Rattle.invariant_cases.specs.Assuming.{assumed_of};
 ghost use Rattle.scan_partial.specs.Sizes.{AreAsLong};
 ghost use Rattle.causes_any_state.specs.Possible.{AreStatesOf, SomeLeavesBy, pairs_of};
 ghost use Rattle.causes_any_state.specs.Searching.{AreStateBuffers};
@@ -53,7 +54,12 @@ fn leave(point: Point, case: &mut Knowledge<Tri, Outcome>)
 }
 
 /// What is assumed of these inputs.
-fn assumption_of<'a>(assumed: Option<&'a Expression>, inputs: &'a [usize]) -> Assumption<'a> {
+pub(crate) fn assumption_of<'a>(
+    assumed: Option<&'a Expression>,
+    inputs: &'a [usize],
+) -> Assumption<'a>
+    ensures { assumed_of result ≡ record { inputs = inputs.entry.now; expression = option_map (λ e. e.now) assumed.entry } }
+{
     Assumption {
         inputs,
         expression: assumed,
