@@ -18,6 +18,7 @@ WORD = re.compile(r"[A-Za-z_][A-Za-z0-9_]*")
 HEAD = re.compile(r"(?:(?:pub|unfoldable|abbrev|opaque) )*(?:(?:record|data) )?([A-Za-z_][A-Za-z0-9_-]*) ?(?=[:(])"
                   r"|(?:pub )?(?:record|data) ([A-Za-z_]\w*)")
 IMPORT = re.compile(r"use Rattle\.(\w+)\.specs\.(\w+)(?:\.\w+)*(?:\.\{(.*)\})?(?: as (\w+))?")
+PASSED = re.compile(r"^pub use Rattle\.(\w+)\.specs\.(\w+)$", re.M)
 ROW = re.compile(r"\| (?P<theorem>[^|]+) \| (?P<names>`[\w.]+`(?:, `[\w.]+`)*) \| (?P<lines>[\d,]+) \| (?P<definitions>[\d,]+) \|")
 
 
@@ -42,7 +43,12 @@ def read(path):
 def tree():
     """Each file of definitions by its crate and its name."""
     paths = sorted((ROOT / "crates").glob("*/specs/*.antt"))
-    return {(path.parent.parent.name, path.stem): read(path) for path in paths if path.stem != "Lib"}
+    files = {(path.parent.parent.name, path.stem): read(path) for path in paths if path.stem != "Lib"}
+    # a file that a crate passes on is one of the crate that has it
+    passed = {(path.parent.parent.name, file): (crate, file) for path in paths if path.stem == "Lib" for crate, file in PASSED.findall(path.read_text("utf-8"))}
+    for _, imports in files.values():
+        imports.update({word: passed.get(place, place) for word, place in imports.items()})
+    return files
 
 
 def used(files, key, name):

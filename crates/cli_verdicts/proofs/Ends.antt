@@ -1,5 +1,5 @@
 -- How the judging of two programs ends, by what was written of them.
-use Rattle.std.proofs.Common.{◌≡◌, Bool, Err, List, Ok, Option, Result, ℕ, None, inl, inr, refl, subst, sym}
+use Rattle.std.proofs.Common.{◌≡◌, Bool, Err, List, Ok, Option, Result, ℕ, None, Some, inl, inr, refl, subst, sym}
 use Rattle.std.specs.Prelude.{IfErr, IfOk}
 use Rattle.diagram_program.specs.Program.{Drawing}
 use Rattle.diagram_reader.specs.Titled.{HasProgram}
@@ -13,19 +13,26 @@ use Rattle.cli_inputs.specs.declared.fault.ToolFault.{ToolFault}
 use Rattle.cli_questions.specs.Ending.{Ends, counts_line, unless_quiet}
 use Rattle.cli_questions.specs.declared.counting.ListCounts.{ListCounts}
 use Rattle.cli_assumed_both.specs.Together.{IsAssumedWhere}
-use Rattle.cli_verdicts.specs.Ending.{FailsToJudge, FailsToWrite, FindsAssuming, Judges, WritesKept, assumes_of, assumption_of}
+use Rattle.cli_diff.specs.Assumed.{Assumption}
+use Rattle.cli_verdicts.specs.Ending.{FailsToJudge, FailsToWrite, FindsAsked, FindsKept, FindsWhere, Judges, WritesKept, assumes_of, assumption_of}
 use Rattle.cli_verdicts.specs.declared.assuming.AssumedOfBoth.{AssumedOfBoth}
 use Rattle.cli_verdicts.specs.declared.writing.Kept.{Kept}
 use Rattle.cli_verdicts.specs.declared.writing.Written.{Written}
 
+-- What is kept was found.
+found_of : (a : Option Assumption) (keeps reachable : Bool) (p q : Drawing) (m : Matching) (witnesses : List Witness) (text : List ℕ) (n : Option ListCounts)
+    → FindsKept a keeps reachable p q m witnesses text n → FindsWhere a reachable p q text n
+found_of None keeps reachable p q m witnesses text n found = found.0
+found_of (Some a) keeps reachable p q m witnesses text n found = found.0
+
 module _ (g h : Given) (r : VerdictRequest) (p q : Drawing) where
   -- What is kept is of what was found.
   pub ends_judged : HasProgram g.aliases g.program p → HasProgram h.aliases h.program q → (keeps : Bool) (m : Matching) (witnesses : List Witness) (o o' : WriteLog)
-      (Written : List ℕ → Type 0) → Ends (FindsAssuming g h r keeps p q m witnesses) r.quiet o o' Written → Ends (Judges g h r) r.quiet o o' Written
+      (Written : List ℕ → Type 0) → Ends (FindsAsked g h r keeps p q m witnesses) r.quiet o o' Written → Ends (Judges g h r) r.quiet o o' Written
   ends_judged old new keeps m witnesses o o' Written ends = record {
     text = ends.text;
     counts = ends.counts;
-    is = (p, q, old, new, ends.is.0, ends.is.1, ends.is.2.0);
+    is = (p, q, old, new, ends.is.0, ends.is.1, found_of ends.is.0 keeps r.reachable p q m witnesses ends.text (Some ends.counts) ends.is.2);
     put = ends.put;
     counted = ends.counted;
   }
@@ -35,15 +42,15 @@ module _ (g h : Given) (r : VerdictRequest) (p q : Drawing) where
     kept_so : (keeps : Bool) (looks : ℕ) (written : Written) (o o' s s' : WriteLog) (kept : Kept)
         → WritesKept (record { looks = looks; reachable = r.reachable; keeps = keeps; assumed = a }) p q written.kept.matching o o' written.kept.witnesses.items written.counts
         → kept ≡ written.kept → PutsAll s s' (unless_quiet r.quiet (counts_line written.counts))
-        → Ends (FindsAssuming g h r keeps p q kept.matching kept.witnesses.items) r.quiet o o' (PutsAll s s')
+        → Ends (FindsAsked g h r keeps p q kept.matching kept.witnesses.items) r.quiet o o' (PutsAll s s')
     kept_so keeps looks written o o' s s' kept wrote same told =
-        subst (λ (k : Kept). Ends (FindsAssuming g h r keeps p q k.matching k.witnesses.items) r.quiet o o' (PutsAll s s')) (sym same)
+        subst (λ (k : Kept). Ends (FindsAsked g h r keeps p q k.matching k.witnesses.items) r.quiet o o' (PutsAll s s')) (sym same)
         (record { text = wrote.0; counts = written.counts; is = (assumption_of a, assumed, wrote.1); put = wrote.2; counted = told })
 
     pub ends_kept : (keeps : Bool) (looks : ℕ) (written : Written) (o o' s s' : WriteLog) (result : Result Kept ℕ)
         → WritesKept (record { looks = looks; reachable = r.reachable; keeps = keeps; assumed = a }) p q written.kept.matching o o' written.kept.witnesses.items written.counts
         → IfOk result (λ kept. (kept ≡ written.kept) × PutsAll s s' (unless_quiet r.quiet (counts_line written.counts)))
-        → IfOk result (λ kept. Ends (FindsAssuming g h r keeps p q kept.matching kept.witnesses.items) r.quiet o o' (PutsAll s s'))
+        → IfOk result (λ kept. Ends (FindsAsked g h r keeps p q kept.matching kept.witnesses.items) r.quiet o o' (PutsAll s s'))
     ends_kept keeps looks written o o' s s' (Ok kept) wrote told = kept_so keeps looks written o o' s s' kept wrote told.0 told.1
     ends_kept keeps looks written o o' s s' (Err status) wrote told = told
 
@@ -67,7 +74,7 @@ module _ (g h : Given) (r : VerdictRequest) (p q : Drawing) where
       uncounted keeps looks m witnesses n save o o' s s' written cut = inr (inr (record {
         text = written.0;
         counts = n;
-        is = (p, q, old, new, assumption_of a, assumed, written.1.0);
+        is = (p, q, old, new, assumption_of a, assumed, found_of (assumption_of a) keeps r.reachable p q m witnesses written.0 (Some n) written.1);
         put = written.2;
         counted = cut;
       }))

@@ -1,4 +1,4 @@
-mod Ends
+pub mod Ends
 pub mod Faults
 mod Finding
 mod Inputs

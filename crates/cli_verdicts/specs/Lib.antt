@@ -1,1 +1,2 @@
 pub mod Ending
+pub use Rattle.cli_assumed_both.specs.Together

@@ -4,7 +4,7 @@ ghost use Rattle.std.specs.Prelude.{◌≡◌, IfOk, option_map};
 ghost use Rattle.invariant_sets.specs.Invariants.{input_numbers};
 ghost use Rattle.diff_cases.specs.Assuming.{assumed_of_both};
 ghost use Rattle.cli_assumed_both.specs.Together.{assumption_read};
-ghost use Rattle.cli_verdicts.specs.Ending.{assumed_in, assumption_of};
+ghost use Rattle.cli_verdicts.specs.Ending.{assumed_where, assumption_of};
 
 use causes_query::source::input_variables;
 use cli_diff::ReadAssumed;
@@ -91,7 +91,7 @@ pub(crate) fn assumptions<'a>(
 ) -> Assumptions<'a>
     requires old { inputs.now.old.items ≡ input_numbers old.now }
     requires new { inputs.now.new.items ≡ input_numbers new.now }
-    ensures { assumed_of_both result ≡ assumed_in (assumption_of assumed.entry) old.now new.now }
+    ensures { assumed_of_both result ≡ assumed_where (assumption_of assumed.entry) old.now new.now }
 {
     let _old = old;
     let _new = new;

@@ -8,7 +8,7 @@ ghost use Rattle.cli_inputs.specs.Setting.{given_by};
 ghost use Rattle.cli_questions.specs.Ending.{Ends, counts_line, unless_quiet};
 ghost use Rattle.cli_diff.specs.Ending.{RefusesOf};
 ghost use Rattle.cli_assumed_both.specs.Together.{IsAssumedWhere};
-ghost use Rattle.cli_verdicts.specs.Ending.{BreaksVerdicts, CountsVerdicts, FailsToJudge, FindsAssuming, HasVerdictFault, assumes_of, assumption_of};
+ghost use Rattle.cli_verdicts.specs.Ending.{BreaksVerdicts, CountsVerdicts, FailsToJudge, FindsAsked, HasVerdictFault, assumes_of, assumption_of};
 
 use crate::assuming::{AssumedOfBoth, as_assumed};
 use crate::reading::{Programs, read_assumed, read_programs};
@@ -65,7 +65,7 @@ fn judge_assumed<O: Sink, E: Sink>(
     requires old { HasProgram (given_by texts.now.old).aliases (given_by texts.now.old).program programs.now.old }
     requires new { HasProgram (given_by texts.now.new).aliases (given_by texts.now.new).program programs.now.new }
     requires assumed { IsAssumedWhere (given_by texts.now.old) (given_by texts.now.new) (assumes_of request.now) programs.now.old programs.now.new (assumption_of terms.assumed) }
-    ensures done { IfOk result (λ kept. Ends (FindsAssuming (given_by texts.now.old) (given_by texts.now.new) request.now terms.entry.keeps programs.now.old programs.now.new kept.matching kept.witnesses.items)
+    ensures done { IfOk result (λ kept. Ends (FindsAsked (given_by texts.now.old) (given_by texts.now.new) request.now terms.entry.keeps programs.now.old programs.now.new kept.matching kept.witnesses.items)
         request.now.quiet (O.log out.old) (O.log out.new) (PutsAll (E.log err.old) (E.log err.new))) }
     ensures status { IfErr result (λ status. status ≡ 1) }
     ensures failed { (save : WriteLog) → IfErr result (λ status.
@@ -100,7 +100,7 @@ pub fn judge_programs<O: Sink, E: Sink>(
 ) -> Result<Kept, u8>
     requires old { HasProgram (given_by texts.now.old).aliases (given_by texts.now.old).program programs.now.old }
     requires new { HasProgram (given_by texts.now.new).aliases (given_by texts.now.new).program programs.now.new }
-    ensures done { IfOk result (λ kept. Ends (FindsAssuming (given_by texts.now.old) (given_by texts.now.new) request.now keeps programs.now.old programs.now.new kept.matching kept.witnesses.items)
+    ensures done { IfOk result (λ kept. Ends (FindsAsked (given_by texts.now.old) (given_by texts.now.new) request.now keeps programs.now.old programs.now.new kept.matching kept.witnesses.items)
         request.now.quiet (O.log out.old) (O.log out.new) (PutsAll (E.log err.old) (E.log err.new))) }
     ensures status { IfErr result (λ status. status ≡ 1) }
     ensures failed { (save : WriteLog) → IfErr result (λ status.

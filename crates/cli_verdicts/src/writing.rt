@@ -6,11 +6,11 @@ ghost use Rattle.diff_cases.specs.Assuming.{assumed_of_both};
 ghost use Rattle.diff_matching.specs.Names.{IsByNames};
 ghost use Rattle.diff_matching.specs.Runs.{HaveNoInput};
 ghost use Rattle.diff_matching.specs.Suited.{IsSuited};
-ghost use Rattle.diff_meaning.specs.Counting.{StayFromFresh};
+ghost use Rattle.diff_meaning.specs.Counting.{CountAssuming, StayFromFreshAssuming};
 ghost use Rattle.diff_meaning.specs.Verdicts.{AreTrue};
 ghost use Rattle.diff_meaning.specs.Witnesses.{AreWitnesses};
 ghost use Rattle.diff_findings.specs.Findings.{findings as findings_list};
-ghost use Rattle.cli_verdicts.specs.Ending.{AreCounted, FailsToWrite, WritesJudged, WritesKept, assumed_in, assumption_of, counts_by, verdict_counts};
+ghost use Rattle.cli_verdicts.specs.Ending.{AreCountedAssuming, FailsToWrite, WritesJudged, WritesKept, assumed_where, assumption_of, counts_by, expressions_in};
 
 use crate::assuming::{AssumedOfBoth, InputsOfBoth, assumptions, inputs_of_both};
 use crate::counting::counted_of;
@@ -19,6 +19,7 @@ use cli_questions::ListCounts;
 use diagram_program::Program;
 use diff_findings::{Compared, Finding, are_equivalent, count_verdicts, findings};
 use diff_matching::Matching;
+use diff_meaning::laws::true_of_all;
 use diff_meaning::{Counted, Verdicts, Witness};
 use diff_verdicts::{Judge, Judgement, judge_all};
 use io_text::Sink;
@@ -72,9 +73,9 @@ fn judged(
     counted: &Counted<'_>,
 ) -> Result<Judgement, Memory>
     requires suited { IsSuited matching.now old.now new.now }
-    requires counted { AreCounted (assumption_of wanted.assumed) wanted.reachable old.now new.now counted.now }
-    ensures verdicts { IfOk result (λ j. AreTrue counted.now matching.now old.now new.now j.verdicts) }
-    ensures kept { wanted.entry.keeps ≡ true → IfOk result (λ j. AreWitnesses counted.now matching.now old.now new.now j.verdicts j.witnesses.items) }
+    requires counted { AreCountedAssuming (assumed_where (assumption_of wanted.assumed) old.now new.now) wanted.reachable old.now new.now counted.now }
+    ensures verdicts { IfOk result (λ j. AreTrue (CountAssuming counted.now) matching.now old.now new.now j.verdicts) }
+    ensures kept { wanted.entry.keeps ≡ true → IfOk result (λ j. AreWitnesses (CountAssuming counted.now) matching.now old.now new.now j.verdicts j.witnesses.items) }
 {
     let mut judge = match Judge::new(alloc, old, new, matching, counted) {
         Ok(judge) => judge,
@@ -114,7 +115,7 @@ fn counts_of(
     list: &[Finding],
     is_equivalent: bool,
 ) -> ListCounts
-    ensures { result ≡ verdict_counts (assumption_of assumed.entry) list.now is_equivalent }
+    ensures { result ≡ counts_by (expressions_in (assumption_of assumed.entry)) list.now is_equivalent }
 {
     match assumed {
         None => verdict_counts(0, list, is_equivalent),
@@ -131,9 +132,9 @@ fn write_list<O: Sink>(
     out: &mut O,
 ) -> Result<ListCounts, ToolFault>
     requires no_input { HaveNoInput compared.matching.now compared.old.now compared.new.now }
-    requires judged { AreTrue compared.counted.now compared.matching.now compared.old.now compared.new.now compared.verdicts.now }
-    requires stays { StayFromFresh compared.counted.now compared.old.now compared.new.now }
-    requires assumed { assumed_of_both compared.counted.now.assumed ≡ assumed_in (assumption_of assumed) compared.old.now compared.new.now }
+    requires judged { AreTrue (CountAssuming compared.counted.now) compared.matching.now compared.old.now compared.new.now compared.verdicts.now }
+    requires stays { StayFromFreshAssuming (assumed_of_both compared.counted.now.assumed) compared.counted.now.states compared.old.now compared.new.now }
+    requires assumed { assumed_of_both compared.counted.now.assumed ≡ assumed_where (assumption_of assumed) compared.old.now compared.new.now }
     requires list { list.now ≡ findings_list compared.old.now compared.new.now compared.matching.now compared.verdicts.now }
     ensures { WritesJudged (assumption_of assumed.entry) compared.entry.old.now compared.entry.new.now compared.entry.matching.now compared.entry.verdicts.now (O.log out.old) (O.log out.new) result }
 {
@@ -154,9 +155,9 @@ fn write_judged<O: Sink>(
     out: &mut O,
 ) -> Result<ListCounts, ToolFault>
     requires no_input { HaveNoInput compared.matching.now compared.old.now compared.new.now }
-    requires judged { AreTrue compared.counted.now compared.matching.now compared.old.now compared.new.now compared.verdicts.now }
-    requires stays { StayFromFresh compared.counted.now compared.old.now compared.new.now }
-    requires assumed { assumed_of_both compared.counted.now.assumed ≡ assumed_in (assumption_of assumed) compared.old.now compared.new.now }
+    requires judged { AreTrue (CountAssuming compared.counted.now) compared.matching.now compared.old.now compared.new.now compared.verdicts.now }
+    requires stays { StayFromFreshAssuming (assumed_of_both compared.counted.now.assumed) compared.counted.now.states compared.old.now compared.new.now }
+    requires assumed { assumed_of_both compared.counted.now.assumed ≡ assumed_where (assumption_of assumed) compared.old.now compared.new.now }
     ensures { WritesJudged (assumption_of assumed.entry) compared.entry.old.now compared.entry.new.now compared.entry.matching.now compared.entry.verdicts.now (O.log out.old) (O.log out.new) result }
 {
     let list = match findings(alloc, compared) {
@@ -181,7 +182,7 @@ fn write_counted<O: Sink>(
     requires names { IsByNames matching.now old.now new.now }
     requires suited { IsSuited matching.now old.now new.now }
     requires no_input { HaveNoInput matching.now old.now new.now }
-    requires counted { AreCounted (assumption_of wanted.assumed) wanted.reachable old.now new.now counted.now }
+    requires counted { AreCountedAssuming (assumed_where (assumption_of wanted.assumed) old.now new.now) wanted.reachable old.now new.now counted.now }
     ensures done { IfOk result (λ t. WritesKept wanted.entry old.now new.now matching.now (O.log out.old) (O.log out.new) t.witnesses.items t.counts) }
     ensures failed { IfErr result (FailsToWrite (assumption_of wanted.entry.assumed) wanted.entry.reachable old.now new.now (O.log out.old) (O.log out.new)) }
 {
@@ -201,6 +202,7 @@ fn write_counted<O: Sink>(
     };
     let written = write_judged(alloc, compared, wanted.assumed, out);
     drop(verdicts);
+    true_of_all(old, new);
     match written {
         Ok(counts) => Ok(Told { counts, witnesses }),
         Err(fault) => {

@@ -7,11 +7,11 @@ use Rattle.std.proofs.lemmas.List.Elements.{All-contains, All-nil, Contains-appe
 use Rattle.std.proofs.lemmas.List.Quantifiers.{position-Some}
 use Rattle.std.proofs.lemmas.Option.{slice_get-get_or}
 use Rattle.diagram_program.specs.Program.{Drawing}
+use Rattle.scan_cycle.specs.Rung.{Held}
 use Rattle.diff_matching.specs.Matching.{Matching}
 use Rattle.diff_matching.specs.declared.matching.Pair.{Pair}
 use Rattle.diff_meaning.specs.Verdicts.{Shows, target_of}
 use Rattle.diff_meaning.specs.Witnesses.{AreWitnesses, Difference, shown_by, told, told_by, told_of}
-use Rattle.diff_meaning.specs.declared.counted.Counted.{Counted}
 use Rattle.diff_meaning.specs.declared.verdict.PairSort.{PairSort}
 use Rattle.diff_meaning.specs.declared.verdict.PairSort.TheVariants.{Variables, Instances, Memories}
 use Rattle.diff_meaning.specs.declared.verdict.Verdict.{Verdict}
@@ -25,7 +25,7 @@ use Rattle.diff_findings.specs.declared.finding.Remark.TheVariants.{Judged, Init
 use Rattle.diff_findings.specs.declared.finding.Sort.{Sort}
 use Rattle.diff_findings.specs.declared.finding.Sort.TheVariants.{NewVariable, NewInstance, OldVariable, OldInstance, NewEdge}
 use Rattle.diff_findings.specs.declared.finding.Subject.{Subject}
-use Rattle.cli_witnesses.specs.Laws.{AreRowsShown, IsShown}
+use Rattle.cli_witnesses.specs.Laws.{AreRowsShownBy, IsShown}
 use Rattle.cli_witnesses.specs.Naming.{subject_of}
 
 -- ---- lists
@@ -196,7 +196,8 @@ told_pair sort pairs vs number a b h =
     let at = position-Some (λ (y : Pair). y.new == number) pairs h.0 (record { old = 0; new = 0 }) h.1 in
     (x, same_number x.new number at.1, told_at sort pairs vs h.0 x a b (slice_get-get_or pairs h.0 (record { old = 0; new = 0 }) at.0) (is_there vs h.0 a b h.2))
 
-module _ (p q : Drawing) (c : Counted) (m : Matching) (vs : Verdicts) (witnesses : List Witness) (are : AreWitnesses c m p q vs witnesses) where
+module _ (p q : Drawing) (Counts : Held → Held → Type 0) (m : Matching) (vs : Verdicts) (witnesses : List Witness)
+    (are : AreWitnesses Counts m p q vs witnesses) where
   of_variables : List Difference
   of_variables = told_of Variables m.variables vs.variables.items
 
@@ -210,21 +211,21 @@ module _ (p q : Drawing) (c : Counted) (m : Matching) (vs : Verdicts) (witnesses
   witness_of d h = in_map shown_by witnesses d (subst (λ (xs : List Difference). Contains xs d) (sym are.each) h)
 
   shown : (sort : PairSort) (x : Pair) (a b : Bool) (subject : Subject) → subject_of (target_of sort x) ≡ subject → Contains (told m vs) (difference sort x a b)
-      → IsShown c m p q witnesses subject a b
+      → IsShown Counts m p q witnesses subject a b
   unfolding difference
   shown sort x a b subject about h =
       let w = witness_of (difference sort x a b) h in
-      let shows = All-contains (λ (v : Witness). Shows c m p q v.target v.old_state v.new_state v.of_old v.of_new) witnesses w.0 are.show w.1 in
-      let old_same = subst (λ k. Shows c m p q w.0.target w.0.old_state w.0.new_state k w.0.of_new) (ap (λ (d : Difference). d.of_old) w.2) shows in
+      let shows = All-contains (λ (v : Witness). Shows Counts m p q v.target v.old_state v.new_state v.of_old v.of_new) witnesses w.0 are.show w.1 in
+      let old_same = subst (λ k. Shows Counts m p q w.0.target w.0.old_state w.0.new_state k w.0.of_new) (ap (λ (d : Difference). d.of_old) w.2) shows in
       record {
         witness = w.0;
         among = w.1;
         about = rw (ap (λ (d : Difference). d.target) w.2) about;
-        shows = subst (λ k. Shows c m p q w.0.target w.0.old_state w.0.new_state a k) (ap (λ (d : Difference). d.of_new) w.2) old_same;
+        shows = subst (λ k. Shows Counts m p q w.0.target w.0.old_state w.0.new_state a k) (ap (λ (d : Difference). d.of_new) w.2) old_same;
       }
 
   of_sort : (sort : Sort) (number : ℕ) (a b : Bool) → Contains (remarks_of p q m vs sort number) (Judged (Differs a b))
-      → IsShown c m p q witnesses (record { sort = sort; number = number }) a b
+      → IsShown Counts m p q witnesses (record { sort = sort; number = number }) a b
   unfolding IsVerdict of_variables of_instances of_memories
   of_sort NewVariable number a b h =
       let t = told_pair Variables m.variables vs.variables.items number a b (variable_judged p q m vs number (Differs a b) h) in
@@ -242,18 +243,18 @@ module _ (p q : Drawing) (c : Counted) (m : Matching) (vs : Verdicts) (witnesses
       (Contains-append_right (of_variables ++ of_instances) of_memories _ t.2)
 
   of_subject : (s : Subject) (f : Finding) (a b : Bool) → Contains (findings_on p q m vs s) f → f.remark ≡ Judged (Differs a b)
-      → IsShown c m p q witnesses f.subject a b
+      → IsShown Counts m p q witnesses f.subject a b
   of_subject s f a b h judged =
       let r = in_map (found s) (remarks_on p q m vs s) f h in
       let said = subst (λ (x : Remark). Contains (remarks_on p q m vs s) x) (ap (λ (g : Finding). g.remark) r.2 ∙ judged) r.1 in
-      subst (λ (t : Subject). IsShown c m p q witnesses t a b) (ap (λ (g : Finding). g.subject) r.2) (of_sort s.sort s.number a b said)
+      subst (λ (t : Subject). IsShown Counts m p q witnesses t a b) (ap (λ (g : Finding). g.subject) r.2) (of_sort s.sort s.number a b said)
 
-  row_shown : (f : Finding) → Contains (findings p q m vs) f → (a b : Bool) → f.remark ≡ Judged (Differs a b) → IsShown c m p q witnesses f.subject a b
+  row_shown : (f : Finding) → Contains (findings p q m vs) f → (a b : Bool) → f.remark ≡ Judged (Differs a b) → IsShown Counts m p q witnesses f.subject a b
   unfolding findings findings_of
   row_shown f h a b judged =
       let by_sort = in_flat (findings_of p q m vs) all_sorts f h in
       let by_number = in_flat (λ n. findings_on p q m vs (record { sort = by_sort.0; number = n })) (range_with_len 0 (count_of p q by_sort.0)) f by_sort.1 in
       of_subject (record { sort = by_sort.0; number = by_number.0 }) f a b by_number.1 judged
 
-pub rows_shown : (p q : Drawing) → AreRowsShown p q
-rows_shown p q c m vs witnesses are f h a b judged = row_shown p q c m vs witnesses are f h a b judged
+pub rows_shown : (Counts : Held → Held → Type 0) (p q : Drawing) → AreRowsShownBy Counts p q
+rows_shown Counts p q m vs witnesses are f h a b judged = row_shown p q Counts m vs witnesses are f h a b judged

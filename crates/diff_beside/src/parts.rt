@@ -5,14 +5,14 @@ ghost use Rattle.scan_cycle.specs.Standing.{fresh};
 ghost use Rattle.diff_matching.specs.Matching.{Agree};
 ghost use Rattle.diff_matching.specs.Runs.{HaveNoInput};
 ghost use Rattle.diff_matching.specs.Suited.{IsSuited};
-ghost use Rattle.diff_meaning.specs.Counting.{AreOfPrograms};
+ghost use Rattle.diff_meaning.specs.Counting.{AreOfPrograms, CountAssuming};
 ghost use Rattle.diff_meaning.specs.Verdicts.{AreTrue};
 ghost use Rattle.diff_runs.specs.Beside.{AgreeFromFresh, IsPart};
 
 use crate::suiting::is_suited;
 use diagram_program::Program;
 use diff_matching::{Matching, agree_but_inputs};
-use diff_meaning::laws::fresh_runs_agree;
+use diff_meaning::laws::{fresh_runs_agree, true_of_all};
 use diff_meaning::{Counted, CountedStates, are_all_same};
 use diff_runs::are_pairs_of_inputs;
 use diff_verdicts::{Judge, Judgement, judge_all};
@@ -43,8 +43,8 @@ fn judged(
     looks: u32,
 ) -> Result<Judgement, Memory>
     requires suited { IsSuited matching.now part.now whole.now }
-    requires counted { AreOfPrograms counted.now part.now whole.now }
-    ensures { IfOk result (λ j. AreTrue counted.now matching.now part.now whole.now j.verdicts) }
+    requires counted { AreOfPrograms counted.now.states part.now whole.now }
+    ensures { IfOk result (λ j. AreTrue (CountAssuming counted.now) matching.now part.now whole.now j.verdicts) }
 {
     let mut judge = Judge::new(alloc, part, whole, matching, counted)?;
     let judgement = judge_all(alloc, &mut judge, looks, false);
@@ -69,6 +69,7 @@ fn stay_alike(
     let counted = Counted::of(CountedStates::All);
     let judgement = judged(alloc, matching, part, whole, &counted, looks)?;
     fresh_runs_agree(part, whole);
+    true_of_all(part, whole);
     Ok(are_all_same(&judgement.verdicts))
 }
 

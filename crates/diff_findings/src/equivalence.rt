@@ -6,7 +6,7 @@ ghost use Rattle.scan_cycle.specs.Standing.{fresh};
 ghost use Rattle.diff_matching.specs.Matching.{Agree, AgreeOnInputs};
 ghost use Rattle.diff_matching.specs.Runs.{HaveNoInput};
 ghost use Rattle.diff_cases.specs.Assuming.{assumed_of_both};
-ghost use Rattle.diff_meaning.specs.Counting.{StayFromFresh};
+ghost use Rattle.diff_meaning.specs.Counting.{CountAssuming, StayFromFreshAssuming};
 ghost use Rattle.diff_meaning.specs.Verdicts.{AreTrue};
 ghost use Rattle.diff_findings.specs.Equivalence.{BeginAlike, IsSaidOfRunsAssuming, is_about_terminals, is_output_alone, is_output_of};
 ghost use Rattle.diff_findings.specs.Findings.{findings};
@@ -111,8 +111,8 @@ pub fn are_equivalent(
     compared: Compared<'_>,
     list: &[Finding],
 ) -> Result<bool, Memory>
-    requires judged { AreTrue compared.counted.now compared.matching.now compared.old.now compared.new.now compared.verdicts.now }
-    requires stays { StayFromFresh compared.counted.now compared.old.now compared.new.now }
+    requires judged { AreTrue (CountAssuming compared.counted.now) compared.matching.now compared.old.now compared.new.now compared.verdicts.now }
+    requires stays { StayFromFreshAssuming (assumed_of_both compared.counted.now.assumed) compared.counted.now.states compared.old.now compared.new.now }
     requires no_input { HaveNoInput compared.matching.now compared.old.now compared.new.now }
     requires list { list.now ≡ findings compared.old.now compared.new.now compared.matching.now compared.verdicts.now }
     ensures { IfOk result (IsSaidOfRunsAssuming (assumed_of_both compared.entry.counted.now.assumed) compared.entry.matching.now compared.entry.old.now compared.entry.new.now

@@ -1,2 +1,3 @@
 mod Equivalent
+mod Nothing
 mod Running

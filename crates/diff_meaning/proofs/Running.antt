@@ -18,7 +18,7 @@ use Rattle.invariant_runs.specs.Staying.{IsStayingOf, StaysSo}
 use Rattle.invariant_runs.proofs.Running.{next_fits, next_stands}
 use Rattle.invariant_runs.proofs.Steps.{so_begun}
 use Rattle.diff_cases.specs.Assuming.{AreTrueIn, BothAssumed, assumed_of_both}
-use Rattle.diff_meaning.specs.Counting.{AreAmong, StayAmong}
+use Rattle.diff_meaning.specs.Counting.{Count, CountAssuming, StayFromFreshAssuming}
 use Rattle.diff_meaning.specs.Laws.{AreEquivalentWhere}
 use Rattle.diff_meaning.specs.declared.counted.Counted.{Counted}
 use Rattle.diff_meaning.specs.declared.counted.CountedStates.{CountedStates}
@@ -51,14 +51,14 @@ pub record AreCounted (c : Counted) (m : Matching) (p q : Drawing) (s t : Standi
   pub old_standing : IsStanding s
   pub new_standing : IsStanding t
   pub agree : Agree m s.held t.held
-  pub among : AreAmong c.states s.held t.held
+  pub among : Count c.states s.held t.held
 
 -- States are still among those where inputs are given, and after a scan of each with inputs of which what is assumed is true.
 pub record StillCount (a : BothAssumed) (states : CountedStates) (p q : Drawing) : Type 0 where
-  pub given : (xs ys : List Bool) (s t : Standing) → AreAmong states s.held t.held → AreAmong states (with_inputs p xs s).held (with_inputs q ys t).held
+  pub given : (xs ys : List Bool) (s t : Standing) → Count states s.held t.held → Count states (with_inputs p xs s).held (with_inputs q ys t).held
   pub next : (moment : ℕ) (xs ys : List Bool) (s t : Standing) → Fits p s → Fits q t → IsStanding s → IsStanding t
-      → AreTrueIn a (with_inputs p xs s).held (with_inputs q ys t).held → AreAmong states s.held t.held
-      → AreAmong states (next p moment xs s).held (next q moment ys t).held
+      → AreTrueIn a (with_inputs p xs s).held (with_inputs q ys t).held → Count states s.held t.held
+      → Count states (next p moment xs s).held (next q moment ys t).held
 
 -- From any state in which it is so, one scan leaves it so: it is settled.
 so_next : (p : Drawing) → StaysAssuming p → (a : Assumed) (start : Standing) (staying : Staying) → IsStayingAssuming p a start staying → (s : Standing)
@@ -80,7 +80,7 @@ so_there : (p : Drawing) (a : Assumed) (s : Standing) (staying : Staying) → Is
 so_there p a s staying is = record { so = is.steady.so; apart = is.apart.apart }
 
 -- Such states are still among those where they are so from the fresh ones on.
-pub still_count : (p q : Drawing) → StaysAssuming p → StaysAssuming q → (a : BothAssumed) (states : CountedStates) → StayAmong a states p q → StillCount a states p q
+pub still_count : (p q : Drawing) → StaysAssuming p → StaysAssuming q → (a : BothAssumed) (states : CountedStates) → StayFromFreshAssuming a states p q → StillCount a states p q
 still_count p q old_law new_law a All stay = record {
   given = λ xs ys s t among. tt;
   next = λ moment xs ys s t fits_s fits_t stands_s stands_t true_in among. tt;
@@ -97,7 +97,7 @@ still_count p q old_law new_law a (Reachable old new) stay = record {
 }
 
 -- The fresh states are among those then.
-pub fresh_count : (p q : Drawing) (a : BothAssumed) (states : CountedStates) → StayAmong a states p q → AreAmong states (fresh p).held (fresh q).held
+pub fresh_count : (p q : Drawing) (a : BothAssumed) (states : CountedStates) → StayFromFreshAssuming a states p q → Count states (fresh p).held (fresh q).held
 fresh_count p q a All stay = tt
 fresh_count p q a (Reachable old new) stay = (so_there p a.of_old (fresh p) old stay.0, so_there q a.of_new (fresh q) new stay.1)
 
@@ -106,7 +106,7 @@ abbrev pub AreBothAllowed : BothAssumed → Drawing → Drawing → List TwoScan
 AreBothAllowed a p q scans s t = AreAllowed p a.of_old (map old_scan scans) s.held × AreAllowed q a.of_new (map new_scan scans) t.held
 
 module _ (p q : Drawing) (old_sound : IsSound (diagram_of p)) (new_sound : IsSound (diagram_of q)) (c : Counted) (m : Matching)
-    (no_input : HaveNoInput m p q) (equal : AreEquivalentWhere c m p q) (still : StillCount (assumed_of_both c.assumed) c.states p q) where
+    (no_input : HaveNoInput m p q) (equal : AreEquivalentWhere (CountAssuming c) m p q) (still : StillCount (assumed_of_both c.assumed) c.states p q) where
   -- after one scan of each they agree
   one : (scan : TwoScans) (more : List TwoScans) (s t : Standing) → AreCounted c m p q s t → AreRuns m p q (scan ∷ more) s t
       → AreTrueIn (assumed_of_both c.assumed) (with_inputs p scan.old s).held (with_inputs q scan.new t).held

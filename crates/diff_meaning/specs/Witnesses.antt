@@ -1,11 +1,11 @@
 -- The states that show the differences that verdicts tell.
 use Rattle.std.specs.Prelude.{◌≡◌, ◌++◌, ◌∷◌, Bool, All, List, [], map}
 use Rattle.diagram_program.specs.Program.{Drawing}
+use Rattle.scan_cycle.specs.Rung.{Held}
 use Rattle.diff_matching.specs.declared.matching.Pair.{Pair}
 use Rattle.diff_matching.specs.Matching.{Matching}
 use Rattle.diff_cases.specs.declared.target.Target.{Target}
 use Rattle.diff_meaning.specs.Verdicts.{Shows, target_of}
-use Rattle.diff_meaning.specs.declared.counted.Counted.{Counted}
 use Rattle.diff_meaning.specs.declared.verdict.PairSort.{PairSort}
 use Rattle.diff_meaning.specs.declared.verdict.PairSort.TheVariants.{Variables, Instances, Memories}
 use Rattle.diff_meaning.specs.declared.verdict.Verdict.{Verdict}
@@ -39,6 +39,6 @@ abbrev pub shown_by : Witness → Difference
 shown_by w = record { target = w.target; of_old = w.of_old; of_new = w.of_new }
 
 -- Of each difference that the verdicts tell there is one witness, in their order, and its states show it.
-pub record AreWitnesses (c : Counted) (m : Matching) (p q : Drawing) (v : Verdicts) (witnesses : List Witness) : Type 0 where
+pub record AreWitnesses (Counts : Held → Held → Type 0) (m : Matching) (p q : Drawing) (v : Verdicts) (witnesses : List Witness) : Type 0 where
   pub each : map shown_by witnesses ≡ told m v
-  pub show : All (λ w. Shows c m p q w.target w.old_state w.new_state w.of_old w.of_new) witnesses
+  pub show : All (λ w. Shows Counts m p q w.target w.old_state w.new_state w.of_old w.of_new) witnesses

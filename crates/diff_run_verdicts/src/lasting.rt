@@ -109,7 +109,7 @@ fn judgement_of(
     counted: &Counted<'_>,
 ) -> Result<Judgement, Memory>
     requires suited { IsSuited candidate.now old.now new.now }
-    requires counted { AreOfPrograms counted.now old.now new.now }
+    requires counted { AreOfPrograms counted.now.states old.now new.now }
 {
     let mut judge = Judge::new(alloc, old, new, candidate, counted)?;
     let judgement = judge_all(alloc, &mut judge, LOOKS, false);

@@ -9,6 +9,7 @@ use Rattle.diagram_program.specs.Program.{Drawing}
 use Rattle.diff_matching.specs.declared.matching.Pair.{Pair}
 use Rattle.diff_matching.specs.Matching.{Matching}
 use Rattle.diff_cases.specs.declared.target.Target.{Target}
+use Rattle.diff_meaning.specs.Counting.{CountAssuming}
 use Rattle.diff_meaning.specs.Verdicts.{CanBeJudged, IsTrueOf, Shows, pairs_of, target_of}
 use Rattle.diff_meaning.specs.Witnesses.{Difference, shown_by, told_by, told_of}
 use Rattle.diff_meaning.specs.declared.counted.Counted.{Counted}
@@ -23,7 +24,7 @@ use Rattle.diff_verdicts.specs.Keeping.{AreKept}
 pub record AreTrueBelow (c : Counted) (m : Matching) (p q : Drawing) (sort : PairSort) (count : ℕ) (verdicts : List Verdict) : Type 0 where
   pub as_many : length verdicts ≡ count
   pub each : (n : ℕ) (x : Pair) (verdict : Verdict) → slice_get (pairs_of sort m) n ≡ Some x → slice_get verdicts n ≡ Some verdict
-      → IsTrueOf c m p q (target_of sort x) verdict
+      → IsTrueOf (CountAssuming c) m p q (target_of sort x) verdict
 
 -- What is so of what a judge judges is so of what one judges that judges the same.
 pub of_same : (P : Counted → Matching → Drawing → Drawing → Type 0) (j k : Judging) → JudgesTheSame j k → P k.counted k.matching k.old_program k.new_program
@@ -69,7 +70,7 @@ of_longer (x ∷ xs) v w (suc i) e = elim (of_longer xs v w i e) [
 
 -- One verdict more, which is true of the next pair.
 pub true_more : (c : Counted) (m : Matching) (p q : Drawing) (sort : PairSort) (n : ℕ) (x : Pair) (v : Verdict) (verdicts : List Verdict)
-    → slice_get (pairs_of sort m) n ≡ Some x → AreTrueBelow c m p q sort n verdicts → IsTrueOf c m p q (target_of sort x) v
+    → slice_get (pairs_of sort m) n ≡ Some x → AreTrueBelow c m p q sort n verdicts → IsTrueOf (CountAssuming c) m p q (target_of sort x) v
     → AreTrueBelow c m p q sort (n + 1) (verdicts ++ (v ∷ []))
 true_more c m p q sort n x v verdicts at below here = record {
   as_many = length-append verdicts (v ∷ []) ∙ ap (λ (k : ℕ). k + 1) below.as_many;
@@ -78,7 +79,7 @@ true_more c m p q sort n x v verdicts at below here = record {
     | inr last ↦
         let place : i ≡ n = last.0 ∙ below.as_many in
         let same : x ≡ y = same_Some x y (sym at ∙ ap (slice_get (pairs_of sort m)) (sym place) ∙ there) in
-        subst (λ (z : Pair). IsTrueOf c m p q (target_of sort z) w) same (subst (λ (u : Verdict). IsTrueOf c m p q (target_of sort x) u) (sym last.1) here)
+        subst (λ (z : Pair). IsTrueOf (CountAssuming c) m p q (target_of sort z) w) same (subst (λ (u : Verdict). IsTrueOf (CountAssuming c) m p q (target_of sort x) u) (sym last.1) here)
   ];
 }
 
@@ -116,9 +117,9 @@ module _ (c : Counted) (m : Matching) (p q : Drawing) (keeps : Bool) where
 
 -- A witness more.
 pub kept_one : (c : Counted) (m : Matching) (p q : Drawing) (w : Witness) (before : List Witness)
-    → Shows c m p q w.target w.old_state w.new_state w.of_old w.of_new → AreKept c m p q true (shown_by w ∷ []) before (before ++ (w ∷ []))
+    → Shows (CountAssuming c) m p q w.target w.old_state w.new_state w.of_old w.of_new → AreKept c m p q true (shown_by w ∷ []) before (before ++ (w ∷ []))
 kept_one c m p q w before shows = record {
   each = λ e. map-append shown_by before (w ∷ []);
-  show = λ all. All-append (λ (x : Witness). Shows c m p q x.target x.old_state x.new_state x.of_old x.of_new) before (w ∷ []) all (all_one (λ (x : Witness). Shows c m p q x.target x.old_state x.new_state x.of_old x.of_new) w shows);
+  show = λ all. All-append (λ (x : Witness). Shows (CountAssuming c) m p q x.target x.old_state x.new_state x.of_old x.of_new) before (w ∷ []) all (all_one (λ (x : Witness). Shows (CountAssuming c) m p q x.target x.old_state x.new_state x.of_old x.of_new) w shows);
   none = λ e. absurd (on_off e);
 }

@@ -14,7 +14,7 @@ use Rattle.diff_cases.specs.Assuming.{AreTrueIn, assumed_of_both}
 use Rattle.diff_cases.specs.Cases.{IsSettledAlikeAssuming}
 use Rattle.diff_cases.specs.declared.assumptions.Assumptions.{Assumptions}
 use Rattle.diff_cases.specs.declared.target.Target.{Target}
-use Rattle.diff_meaning.specs.Counting.{AreAmong, AreOfPrograms, AreSaidOf}
+use Rattle.diff_meaning.specs.Counting.{AreOfPrograms, Count, CountAssuming}
 use Rattle.diff_meaning.specs.Verdicts.{LeavesAlikeWhere}
 use Rattle.diff_meaning.specs.declared.counted.Counted.{Counted}
 use Rattle.diff_meaning.specs.declared.counted.CountedStates.{CountedStates}
@@ -43,8 +43,8 @@ none_is_so p h = record {
 }
 
 -- All that is known of two states that agree and count allows them.
-opening_allows : (c : CountedStates) (m : Matching) (p q : Drawing) → KnowingAllows p → KnowingAllows q → AreSaidOf c p q → (moment : ℕ) (s t : Standing)
-    → AreShared m p q moment s t → AreAmong c s.held t.held → AllowBoth p q moment (opening_among c m p q) s.held t.held
+opening_allows : (c : CountedStates) (m : Matching) (p q : Drawing) → KnowingAllows p → KnowingAllows q → AreOfPrograms c p q → (moment : ℕ) (s t : Standing)
+    → AreShared m p q moment s t → Count c s.held t.held → AllowBoth p q moment (opening_among c m p q) s.held t.held
 opening_allows All m p q old_allows new_allows of moment s t shared count = record {
   of_old = old_allows s shared.old_fits shared.old_standing (no_claims p) (none_is_set p) (none_is_so p s.held) moment;
   of_new = new_allows t shared.new_fits shared.new_standing (no_claims q) (none_is_set q) (none_is_so q t.held) moment;
@@ -58,19 +58,19 @@ opening_allows (Reachable old new) m p q old_allows new_allows of moment s t sha
     }))
 
 -- What is settled alike where this is known is left alike from all states that agree and count.
-pub left_alike : (c : Counted) (m : Matching) (p q : Drawing) (target : Target) → KnowingAllows p → KnowingAllows q → SettledAlikeHolds p q → AreOfPrograms c p q
+pub left_alike : (c : Counted) (m : Matching) (p q : Drawing) (target : Target) → KnowingAllows p → KnowingAllows q → SettledAlikeHolds p q → AreOfPrograms c.states p q
     → IsComparable m p q target → IsSettledAlikeAssuming p q (assumed_of_both c.assumed) m target (opening c m p q).of_old (opening c m p q).of_new
-    → LeavesAlikeWhere c m p q target
+    → LeavesAlikeWhere (CountAssuming c) m p q target
 left_alike c m p q target old_allows new_allows holds of can settled moment s t shared count =
     let allow = opening_allows c.states m p q old_allows new_allows of moment s t shared count.among in
     holds (assumed_of_both c.assumed) m target can (opening c m p q).of_old (opening c m p q).of_new settled moment s.held t.held allow.of_old allow.of_new
     shared.agree shared.inputs count.true_in
 
 -- What is left alike from all states that agree, in which what is assumed is true, is so from those that count.
-pub from_all : (c d : Counted) (m : Matching) (p q : Drawing) (target : Target) → d.states ≡ All → d.assumed ≡ c.assumed → LeavesAlikeWhere d m p q target
-    → LeavesAlikeWhere c m p q target
+pub from_all : (c d : Counted) (m : Matching) (p q : Drawing) (target : Target) → d.states ≡ All → d.assumed ≡ c.assumed → LeavesAlikeWhere (CountAssuming d) m p q target
+    → LeavesAlikeWhere (CountAssuming c) m p q target
 from_all c d m p q target all same left moment s t shared count =
     left moment s t shared (record {
-      among = subst (λ (states : CountedStates). AreAmong states s.held t.held) (sym all) tt;
+      among = subst (λ (states : CountedStates). Count states s.held t.held) (sym all) tt;
       true_in = subst (λ (a : Assumptions). AreTrueIn (assumed_of_both a) s.held t.held) (sym same) count.true_in;
     })

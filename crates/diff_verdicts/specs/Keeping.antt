@@ -2,6 +2,7 @@
 use Rattle.std.specs.Prelude.{◌≡◌, ◌++◌, Bool, true, false, All, List, [], map}
 use Rattle.diagram_program.specs.Program.{Drawing}
 use Rattle.diff_matching.specs.Matching.{Matching}
+use Rattle.diff_meaning.specs.Counting.{CountAssuming}
 use Rattle.diff_meaning.specs.Verdicts.{Shows, target_of}
 use Rattle.diff_meaning.specs.Witnesses.{Difference, shown_by}
 use Rattle.diff_meaning.specs.declared.counted.Counted.{Counted}
@@ -13,7 +14,7 @@ use Rattle.diff_rungs.specs.declared.leaving.InCommon.{InCommon}
 
 -- The states of each witness show its difference.
 abbrev pub AllShow : Counted → Matching → Drawing → Drawing → List Witness → Type 0
-AllShow c m p q witnesses = All (λ w. Shows c m p q w.target w.old_state w.new_state w.of_old w.of_new) witnesses
+AllShow c m p q witnesses = All (λ w. Shows (CountAssuming c) m p q w.target w.old_state w.new_state w.of_old w.of_new) witnesses
 
 -- The second list is the first one with a witness of each of the differences after it, where they are kept, and else it is the first.
 pub record AreKept (c : Counted) (m : Matching) (p q : Drawing) (keeps : Bool) (differences : List Difference) (before after : List Witness) : Type 0 where

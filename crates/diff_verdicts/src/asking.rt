@@ -4,7 +4,7 @@ ghost use Rattle.std.specs.Prelude.{◌≡◌, ◌<◌, ◌↔◌, IfSome, IsNon
 ghost use Rattle.diff_cases.specs.Alike.{IsComparable};
 ghost use Rattle.diff_cases.specs.Assuming.{assumed_of_both};
 ghost use Rattle.diff_cases.specs.Buffers.{AreAlikeBuffers};
-ghost use Rattle.diff_meaning.specs.Counting.{AreOfPrograms};
+ghost use Rattle.diff_meaning.specs.Counting.{AreOfPrograms, CountAssuming};
 ghost use Rattle.diff_meaning.specs.Verdicts.{CanBeJudged, LeavesAlikeWhere, Shows};
 ghost use Rattle.diff_verdicts.specs.Judging.{AreTried, ClaimNothing, IsToldAtOnce};
 
@@ -38,12 +38,12 @@ fn is_same_among(
     looks: u32,
 ) -> bool
     requires target { CanBeJudged question.matching.now question.target }
-    requires counted { AreOfPrograms counted.now question.old.now question.new.now }
+    requires counted { AreOfPrograms counted.now.states question.old.now question.new.now }
     requires assumed { assumed_of_both question.assumed ≡ assumed_of_both counted.now.assumed }
     requires nothing { ClaimNothing question.old.now question.new.now nothing.now }
     requires buffers { AreAlikeBuffers question.old.now question.new.now buffers.old }
     ensures same { IsTrue result
-        → LeavesAlikeWhere counted.now question.entry.matching.now question.entry.old.now question.entry.new.now question.entry.target }
+        → LeavesAlikeWhere (CountAssuming counted.now) question.entry.matching.now question.entry.old.now question.entry.new.now question.entry.target }
     ensures at_once { 0 < looks
         → IsToldAtOnce counted.now question.entry.matching.now question.entry.old.now question.entry.new.now question.entry.target → IsTrue result }
     ensures none { looks ≡ 0 → result ≡ false }
@@ -69,7 +69,7 @@ fn is_same_everywhere(
     requires nothing { ClaimNothing question.old.now question.new.now nothing.now }
     requires buffers { AreAlikeBuffers question.old.now question.new.now buffers.old }
     ensures same { IsTrue result
-        → LeavesAlikeWhere counted.now question.entry.matching.now question.entry.old.now question.entry.new.now question.entry.target }
+        → LeavesAlikeWhere (CountAssuming counted.now) question.entry.matching.now question.entry.old.now question.entry.new.now question.entry.target }
     ensures none { looks ≡ 0 → result ≡ false }
     ensures buffers { AreAlikeBuffers question.entry.old.now question.entry.new.now buffers.new }
 {
@@ -92,12 +92,12 @@ pub(crate) fn is_same(
     looks: u32,
 ) -> bool
     requires target { CanBeJudged question.matching.now question.target }
-    requires counted { AreOfPrograms counted.now question.old.now question.new.now }
+    requires counted { AreOfPrograms counted.now.states question.old.now question.new.now }
     requires assumed { assumed_of_both question.assumed ≡ assumed_of_both counted.now.assumed }
     requires nothing { ClaimNothing question.old.now question.new.now nothing.now }
     requires buffers { AreAlikeBuffers question.old.now question.new.now buffers.old }
     ensures same { IsTrue result
-        → LeavesAlikeWhere counted.now question.entry.matching.now question.entry.old.now question.entry.new.now question.entry.target }
+        → LeavesAlikeWhere (CountAssuming counted.now) question.entry.matching.now question.entry.old.now question.entry.new.now question.entry.target }
     ensures at_once { 0 < looks
         → IsToldAtOnce counted.now question.entry.matching.now question.entry.old.now question.entry.new.now question.entry.target → IsTrue result }
     ensures none { looks ≡ 0 → result ≡ false }
@@ -123,11 +123,11 @@ pub(crate) fn find(
     tried: &mut Tried,
     looks: u32,
 ) -> Option<Ends>
-    requires counted { AreOfPrograms counted.now question.old.now question.new.now }
+    requires counted { AreOfPrograms counted.now.states question.old.now question.new.now }
     requires nothing { ClaimNothing question.old.now question.new.now nothing.now }
     requires buffers { AreAlikeBuffers question.old.now question.new.now buffers.old }
     requires tried { AreTried question.old.now question.new.now tried.old }
-    ensures shown { IfSome result (λ ends. Shows counted.now question.entry.matching.now question.entry.old.now question.entry.new.now question.entry.target
+    ensures shown { IfSome result (λ ends. Shows (CountAssuming counted.now) question.entry.matching.now question.entry.old.now question.entry.new.now question.entry.target
         tried.new.old_state tried.new.new_state ends.of_old ends.of_new) }
     ensures none { looks ≡ 0 → IsNone result }
     ensures buffers { AreAlikeBuffers question.entry.old.now question.entry.new.now buffers.new }

@@ -4,7 +4,7 @@ ghost use Rattle.std.specs.Prelude.{◌≡◌, ◌↔◌, IfOk, IfSome, IsTrue};
 ghost use Rattle.scan_cycle.specs.Standing.{Fits};
 ghost use Rattle.diff_matching.specs.Matching.{Agree, AgreeOnInputs, scanned};
 ghost use Rattle.diff_cases.specs.Alike.{AreAlike};
-ghost use Rattle.diff_meaning.specs.Counting.{AreAmong, AreOfPrograms, AreSaidOf, Count};
+ghost use Rattle.diff_meaning.specs.Counting.{AreOfPrograms, Count, CountAssuming};
 ghost use Rattle.diff_meaning.specs.Verdicts.{Shows, new_value, old_value};
 ghost use Rattle.diff_meaning.specs.declared.verdict.TheConstants.{MOMENT};
 ghost use Rattle.diff_verdicts.specs.Judging.{AreTried};
@@ -138,8 +138,8 @@ fn scan_copy(program: &Program, state: &State, end: &mut State)
 
 /// Whether the two states are among those that count where nothing is assumed.
 fn are_among(question: AlikeQuestion<'_>, states: &CountedStates, tried: &Tried) -> bool
-    requires { AreSaidOf states.now question.old.now question.new.now }
-    ensures { IsTrue result → AreAmong states.now tried.now.old_state.held tried.now.new_state.held }
+    requires { AreOfPrograms states.now question.old.now question.new.now }
+    ensures { IsTrue result → Count states.now tried.now.old_state.held tried.now.new_state.held }
 {
     match states {
         CountedStates::All => true,
@@ -152,8 +152,8 @@ fn are_among(question: AlikeQuestion<'_>, states: &CountedStates, tried: &Tried)
 
 /// Whether the two states count.
 fn count(question: AlikeQuestion<'_>, counted: &Counted<'_>, tried: &Tried) -> bool
-    requires { AreOfPrograms counted.now question.old.now question.new.now }
-    ensures { IsTrue result → Count counted.now tried.now.old_state.held tried.now.new_state.held }
+    requires { AreOfPrograms counted.now.states question.old.now question.new.now }
+    ensures { IsTrue result → CountAssuming counted.now tried.now.old_state.held tried.now.new_state.held }
 {
     let assumed = counted.assumed;
     are_among(question, &counted.states, tried)
@@ -162,10 +162,10 @@ fn count(question: AlikeQuestion<'_>, counted: &Counted<'_>, tried: &Tried) -> b
 
 /// Whether the two states agree and count.
 fn are_to_be_tried(question: AlikeQuestion<'_>, counted: &Counted<'_>, tried: &Tried) -> bool
-    requires { AreOfPrograms counted.now question.old.now question.new.now }
+    requires { AreOfPrograms counted.now.states question.old.now question.new.now }
     ensures agree { IsTrue result → Agree question.entry.matching.now tried.now.old_state.held tried.now.new_state.held }
     ensures inputs { IsTrue result → AgreeOnInputs question.entry.matching.now tried.now.old_state.held tried.now.new_state.held }
-    ensures count { IsTrue result → Count counted.now tried.now.old_state.held tried.now.new_state.held }
+    ensures count { IsTrue result → CountAssuming counted.now tried.now.old_state.held tried.now.new_state.held }
 {
     agree(question.matching, &tried.old_state, &tried.new_state) && count(question, counted, tried)
 }
@@ -176,9 +176,9 @@ pub(crate) fn check(
     counted: &Counted<'_>,
     tried: &mut Tried,
 ) -> Option<Ends>
-    requires counted { AreOfPrograms counted.now question.old.now question.new.now }
+    requires counted { AreOfPrograms counted.now.states question.old.now question.new.now }
     requires tried { AreTried question.old.now question.new.now tried.old }
-    ensures shown { IfSome result (λ ends. Shows counted.now question.entry.matching.now question.entry.old.now question.entry.new.now question.entry.target
+    ensures shown { IfSome result (λ ends. Shows (CountAssuming counted.now) question.entry.matching.now question.entry.old.now question.entry.new.now question.entry.target
         tried.new.old_state tried.new.new_state ends.of_old ends.of_new) }
     ensures tried { AreTried question.entry.old.now question.entry.new.now tried.new }
 {

@@ -3,7 +3,7 @@
 ghost use Rattle.std.specs.Prelude.{◌≡◌, ◌<◌, Bool, IfOk};
 ghost use Rattle.diff_cases.specs.declared.target.Target.TheVariants.{Contents, Memory as Edge, Variable};
 ghost use Rattle.diff_matching.specs.Suited.{IsSuited};
-ghost use Rattle.diff_meaning.specs.Counting.{AreOfPrograms};
+ghost use Rattle.diff_meaning.specs.Counting.{AreOfPrograms, CountAssuming};
 ghost use Rattle.diff_meaning.specs.Verdicts.{CanBeJudged, IsTrueOf, Shows};
 ghost use Rattle.diff_meaning.specs.declared.verdict.TheConstants.{MOMENT};
 ghost use Rattle.diff_meaning.specs.declared.verdict.Verdict.TheVariants.{Differs, Same, Unsettled};
@@ -59,7 +59,7 @@ impl<'a> Model for Judge<'a> {
 
     ghost invariant = { λ j. ClaimNothing j.old_program.now j.new_program.now j.aids.nothing
         × AreAlikeBuffers j.old_program.now j.new_program.now j.aids.buffers × AreTried j.old_program.now j.new_program.now j.tried
-        × AreOfPrograms j.counted.now j.old_program.now j.new_program.now };
+        × AreOfPrograms j.counted.now.states j.old_program.now j.new_program.now };
 }
 
 /// The states that showed a difference, and the moment at which one scan of each does.
@@ -83,7 +83,7 @@ impl<'a> Judge<'a> {
         matching: &'a Matching,
         counted: &'a Counted<'a>,
     ) -> Result<Judge<'a>, Memory>
-        requires { AreOfPrograms counted.now old.now new.now }
+        requires { AreOfPrograms counted.now.states old.now new.now }
         ensures old { IfOk result (λ j. j.old_program ≡ old.now) }
         ensures new { IfOk result (λ j. j.new_program ≡ new.now) }
         ensures matching { IfOk result (λ j. j.matching ≡ matching.now) }
@@ -176,9 +176,9 @@ impl<'a> Judge<'a> {
     /// as many looks again may prove it of all states.
     pub fn judge(&mut self, target: Target, looks: u32) -> Verdict
         requires target { CanBeJudged self.old.matching target }
-        ensures truth { IsTrueOf self.old.counted self.old.matching self.old.old_program self.old.new_program target result }
+        ensures truth { IsTrueOf (CountAssuming self.old.counted) self.old.matching self.old.old_program self.old.new_program target result }
         ensures shown { (a b : Bool) → result ≡ Differs a b
-            → Shows self.old.counted self.old.matching self.old.old_program self.old.new_program target self.new.old_state self.new.new_state a b }
+            → Shows (CountAssuming self.old.counted) self.old.matching self.old.old_program self.old.new_program target self.new.old_state self.new.new_state a b }
         ensures at_once { 0 < looks → IsToldAtOnce self.old.counted self.old.matching self.old.old_program self.old.new_program target → result ≡ Same }
         ensures none { looks ≡ 0 → result ≡ Unsettled }
         ensures same { JudgesTheSame self.old self.new }

@@ -93,7 +93,7 @@ pub(crate) fn open_all(
     nothing: &Nothing,
     buffers: &mut AlikeBuffers,
 )
-    requires counted { AreOfPrograms counted.now question.old.now question.new.now }
+    requires counted { AreOfPrograms counted.now.states question.old.now question.new.now }
     requires nothing { ClaimNothing question.old.now question.new.now nothing.now }
     requires buffers { AreAlikeBuffers question.old.now question.new.now buffers.old }
     ensures known { knowns_in buffers.new ≡ opening counted.now question.entry.matching.now question.entry.old.now question.entry.new.now }

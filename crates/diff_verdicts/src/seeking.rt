@@ -2,7 +2,7 @@
 
 ghost use Rattle.std.specs.Prelude.{◌≡◌, ◌≤◌, IfSome, IsNone};
 ghost use Rattle.diff_cases.specs.Buffers.{AreAlikeBuffers};
-ghost use Rattle.diff_meaning.specs.Counting.{AreOfPrograms};
+ghost use Rattle.diff_meaning.specs.Counting.{AreOfPrograms, CountAssuming};
 ghost use Rattle.diff_meaning.specs.Verdicts.{Shows};
 ghost use Rattle.diff_verdicts.specs.Judging.{AreTried};
 
@@ -96,9 +96,9 @@ fn try_forms(
     buffers: &AlikeBuffers,
     tried: &mut Tried,
 ) -> Option<Ends>
-    requires counted { AreOfPrograms counted.now question.old.now question.new.now }
+    requires counted { AreOfPrograms counted.now.states question.old.now question.new.now }
     requires tried { AreTried question.old.now question.new.now tried.old }
-    ensures shown { IfSome result (λ ends. Shows counted.now question.entry.matching.now question.entry.old.now question.entry.new.now question.entry.target
+    ensures shown { IfSome result (λ ends. Shows (CountAssuming counted.now) question.entry.matching.now question.entry.old.now question.entry.new.now question.entry.target
         tried.new.old_state tried.new.new_state ends.of_old ends.of_new) }
     ensures tried { AreTried question.entry.old.now question.entry.new.now tried.new }
 {
@@ -135,10 +135,10 @@ pub(crate) fn seek(
     tried: &mut Tried,
     looks: u32,
 ) -> Attempt
-    requires counted { AreOfPrograms counted.now question.old.now question.new.now }
+    requires counted { AreOfPrograms counted.now.states question.old.now question.new.now }
     requires buffers { AreAlikeBuffers question.old.now question.new.now buffers.old }
     requires tried { AreTried question.old.now question.new.now tried.old }
-    ensures shown { IfSome result.found (λ ends. Shows counted.now question.entry.matching.now question.entry.old.now question.entry.new.now question.entry.target
+    ensures shown { IfSome result.found (λ ends. Shows (CountAssuming counted.now) question.entry.matching.now question.entry.old.now question.entry.new.now question.entry.target
         tried.new.old_state tried.new.new_state ends.of_old ends.of_new) }
     ensures none { looks ≡ 0 → IsNone result.found }
     ensures looks { result.looks ≤ looks }
@@ -184,10 +184,10 @@ fn try_case(
     tried: &mut Tried,
     looks: u32,
 ) -> Attempt
-    requires counted { AreOfPrograms counted.now question.old.now question.new.now }
+    requires counted { AreOfPrograms counted.now.states question.old.now question.new.now }
     requires buffers { AreAlikeBuffers question.old.now question.new.now buffers.old }
     requires tried { AreTried question.old.now question.new.now tried.old }
-    ensures shown { IfSome result.found (λ ends. Shows counted.now question.entry.matching.now question.entry.old.now question.entry.new.now question.entry.target
+    ensures shown { IfSome result.found (λ ends. Shows (CountAssuming counted.now) question.entry.matching.now question.entry.old.now question.entry.new.now question.entry.target
         tried.new.old_state tried.new.new_state ends.of_old ends.of_new) }
     ensures looks { result.looks ≤ looks }
     ensures buffers { AreAlikeBuffers question.entry.old.now question.entry.new.now buffers.new }
@@ -214,10 +214,10 @@ fn in_case(
     tried: &mut Tried,
     looks: u32,
 ) -> Attempt
-    requires counted { AreOfPrograms counted.now question.old.now question.new.now }
+    requires counted { AreOfPrograms counted.now.states question.old.now question.new.now }
     requires buffers { AreAlikeBuffers question.old.now question.new.now buffers.old }
     requires tried { AreTried question.old.now question.new.now tried.old }
-    ensures shown { IfSome result.found (λ ends. Shows counted.now question.entry.matching.now question.entry.old.now question.entry.new.now question.entry.target
+    ensures shown { IfSome result.found (λ ends. Shows (CountAssuming counted.now) question.entry.matching.now question.entry.old.now question.entry.new.now question.entry.target
         tried.new.old_state tried.new.new_state ends.of_old ends.of_new) }
     ensures looks { result.looks ≤ looks }
     ensures buffers { AreAlikeBuffers question.entry.old.now question.entry.new.now buffers.new }
@@ -239,10 +239,10 @@ fn by_cases(
     tried: &mut Tried,
     looks: u32,
 ) -> Attempt
-    requires counted { AreOfPrograms counted.now question.old.now question.new.now }
+    requires counted { AreOfPrograms counted.now.states question.old.now question.new.now }
     requires buffers { AreAlikeBuffers question.old.now question.new.now buffers.old }
     requires tried { AreTried question.old.now question.new.now tried.old }
-    ensures shown { IfSome result.found (λ ends. Shows counted.now question.entry.matching.now question.entry.old.now question.entry.new.now question.entry.target
+    ensures shown { IfSome result.found (λ ends. Shows (CountAssuming counted.now) question.entry.matching.now question.entry.old.now question.entry.new.now question.entry.target
         tried.new.old_state tried.new.new_state ends.of_old ends.of_new) }
     ensures looks { result.looks ≤ looks }
     ensures buffers { AreAlikeBuffers question.entry.old.now question.entry.new.now buffers.new }

@@ -3,6 +3,7 @@
 ghost use Rattle.std.specs.Prelude.{◌≡◌, Bool, [], IfOk, OnOk, Some, false, slice_get, true};
 ghost use Rattle.diff_cases.specs.Alike.{LeavesAlike};
 ghost use Rattle.diff_matching.specs.Suited.{IsSuited};
+ghost use Rattle.diff_meaning.specs.Counting.{CountAssuming};
 ghost use Rattle.diff_meaning.specs.Verdicts.{AreTrue, AreTrueOf, CanBeJudged, IsTrueOf, Shows, pairs_of, target_of};
 ghost use Rattle.diff_meaning.specs.Witnesses.{AreWitnesses, told, told_by, told_of};
 ghost use Rattle.diff_meaning.specs.declared.verdict.Verdict.TheVariants.{Differs};
@@ -36,9 +37,9 @@ pub(crate) struct Effort {
 fn verdict_on(judge: &mut Judge<'_>, target: Target, is_alike: bool, looks: u32) -> Verdict
     requires target { CanBeJudged judge.old.matching target }
     requires alike { is_alike ≡ true → LeavesAlike judge.old.matching judge.old.old_program judge.old.new_program target }
-    ensures truth { IsTrueOf judge.old.counted judge.old.matching judge.old.old_program judge.old.new_program target result }
+    ensures truth { IsTrueOf (CountAssuming judge.old.counted) judge.old.matching judge.old.old_program judge.old.new_program target result }
     ensures shown { (a b : Bool) → result ≡ Differs a b
-        → Shows judge.old.counted judge.old.matching judge.old.old_program judge.old.new_program target judge.new.old_state judge.new.new_state a b }
+        → Shows (CountAssuming judge.old.counted) judge.old.matching judge.old.old_program judge.old.new_program target judge.new.old_state judge.new.new_state a b }
     ensures same { JudgesTheSame judge.old judge.new }
 {
     if is_alike {
@@ -66,7 +67,7 @@ fn keep(
     witnesses: &mut Vec<Witness>,
 ) -> Result<(), Memory>
     requires { (a b : Bool) → verdict ≡ Differs a b
-        → Shows judge.now.counted judge.now.matching judge.now.old_program judge.now.new_program target judge.now.old_state judge.now.new_state a b }
+        → Shows (CountAssuming judge.now.counted) judge.now.matching judge.now.old_program judge.now.new_program target judge.now.old_state judge.now.new_state a b }
     ensures { OnOk result (AreKept judge.entry.now.counted judge.entry.now.matching judge.entry.now.old_program judge.entry.now.new_program true (told_by target verdict)
         witnesses.old.items witnesses.new.items) }
 {
@@ -91,7 +92,7 @@ fn judge_pair(
 ) -> Result<Verdict, Memory>
     requires target { CanBeJudged judge.old.matching target }
     requires alike { is_alike ≡ true → LeavesAlike judge.old.matching judge.old.old_program judge.old.new_program target }
-    ensures truth { IfOk result (IsTrueOf judge.old.counted judge.old.matching judge.old.old_program judge.old.new_program target) }
+    ensures truth { IfOk result (IsTrueOf (CountAssuming judge.old.counted) judge.old.matching judge.old.old_program judge.old.new_program target) }
     ensures kept { IfOk result (λ v. AreKept judge.old.counted judge.old.matching judge.old.old_program judge.old.new_program effort.keeps (told_by target v)
         witnesses.old.items witnesses.new.items) }
     ensures same { JudgesTheSame judge.old judge.new }
@@ -115,7 +116,7 @@ fn judge_sort(
 ) -> Result<(), Memory>
     requires alike { AreLeftAlike (target_of sort) (pairs_of sort judge.old.matching) alike.now judge.old.matching judge.old.old_program judge.old.new_program }
     requires none { verdicts.old.items ≡ [] }
-    ensures truth { OnOk result (AreTrueOf judge.old.counted judge.old.matching judge.old.old_program judge.old.new_program sort verdicts.new.items) }
+    ensures truth { OnOk result (AreTrueOf (CountAssuming judge.old.counted) judge.old.matching judge.old.old_program judge.old.new_program sort verdicts.new.items) }
     ensures kept { OnOk result (AreKept judge.old.counted judge.old.matching judge.old.old_program judge.old.new_program effort.keeps
         (told_of sort (pairs_of sort judge.old.matching) verdicts.new.items) witnesses.old.items witnesses.new.items) }
     ensures same { JudgesTheSame judge.old judge.new }
@@ -140,7 +141,7 @@ fn judge_sorts(
 ) -> Result<(), Memory>
     requires alike { AreInCommon judge.old.matching judge.old.old_program judge.old.new_program alike.now }
     requires empty { AreEmpty judgement.old.verdicts }
-    ensures truth { OnOk result (AreTrue judge.old.counted judge.old.matching judge.old.old_program judge.old.new_program judgement.new.verdicts) }
+    ensures truth { OnOk result (AreTrue (CountAssuming judge.old.counted) judge.old.matching judge.old.old_program judge.old.new_program judgement.new.verdicts) }
     ensures kept { OnOk result (AreKept judge.old.counted judge.old.matching judge.old.old_program judge.old.new_program effort.keeps
         (told judge.old.matching judgement.new.verdicts) judgement.old.witnesses.items judgement.new.witnesses.items) }
     ensures same { JudgesTheSame judge.old judge.new }
@@ -200,7 +201,7 @@ fn judge_into(
 ) -> Result<(), Memory>
     requires suited { IsSuited judge.old.matching judge.old.old_program judge.old.new_program }
     requires empty { AreEmpty judgement.old.verdicts }
-    ensures truth { OnOk result (AreTrue judge.old.counted judge.old.matching judge.old.old_program judge.old.new_program judgement.new.verdicts) }
+    ensures truth { OnOk result (AreTrue (CountAssuming judge.old.counted) judge.old.matching judge.old.old_program judge.old.new_program judgement.new.verdicts) }
     ensures kept { OnOk result (AreKept judge.old.counted judge.old.matching judge.old.old_program judge.old.new_program effort.keeps
         (told judge.old.matching judgement.new.verdicts) judgement.old.witnesses.items judgement.new.witnesses.items) }
     ensures same { JudgesTheSame judge.old judge.new }
@@ -225,9 +226,9 @@ pub fn judge_all(
     keeps: bool,
 ) -> Result<Judgement, Memory>
     requires { IsSuited judge.old.matching judge.old.old_program judge.old.new_program }
-    ensures verdicts { IfOk result (λ j. AreTrue judge.old.counted judge.old.matching judge.old.old_program judge.old.new_program j.verdicts) }
+    ensures verdicts { IfOk result (λ j. AreTrue (CountAssuming judge.old.counted) judge.old.matching judge.old.old_program judge.old.new_program j.verdicts) }
     ensures witnesses { IfOk result (λ j. keeps ≡ true
-        → AreWitnesses judge.old.counted judge.old.matching judge.old.old_program judge.old.new_program j.verdicts j.witnesses.items) }
+        → AreWitnesses (CountAssuming judge.old.counted) judge.old.matching judge.old.old_program judge.old.new_program j.verdicts j.witnesses.items) }
     ensures none { IfOk result (λ j. keeps ≡ false → j.witnesses.items ≡ []) }
     ensures same { JudgesTheSame judge.old judge.new }
 {

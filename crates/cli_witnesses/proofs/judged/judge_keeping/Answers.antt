@@ -3,9 +3,10 @@ use Rattle.io_text.specs.Log.{PutsAll, WriteLog}
 use Rattle.cli_inputs.specs.Reports.{logs}
 use Rattle.cli_inputs.specs.Setting.{given_by}
 use Rattle.cli_questions.specs.Ending.{Ends}
-use Rattle.cli_verdicts.specs.Ending.{FailsToJudge, FindsAssuming}
+use Rattle.cli_verdicts.specs.Ending.{FailsToJudge, FindsAsked}
+use Rattle.cli_verdicts.proofs.Ends.{ends_judged}
 use Rattle.cli_verdicts.proofs.Faults.{text_refused}
-use Rattle.cli_witnesses.proofs.Kept.{counts_verdicts, keeps_witnesses}
+use Rattle.cli_witnesses.proofs.Kept.{keeps_witnesses}
 use Rattle.cli_witnesses.proofs.judged.judge_keeping.Goals as goal
 
 pub returns-in-Err-clause-failed : goal.returns-in-Err-clause-failed
@@ -17,9 +18,9 @@ returns-in-Ok-judge_programs-clause-done g c =
     let p = c.in-Ok.programs.old in
     let q = c.in-Ok.programs.new in
     let kept = c.in-Ok-judge_programs.kept in
-    counts_verdicts (given_by c.args.texts.now.old) (given_by c.args.texts.now.new) c.args.request.now
-    (record { old = p; new = q; matching = kept.matching; witnesses = kept.witnesses.items; why = c.args.texts.now.old.why }) _ _ _ c.in-Ok.ensures.old c.in-Ok.ensures.new
-    (subst (λ (x : WriteLog). Ends (FindsAssuming (given_by c.args.texts.now.old) (given_by c.args.texts.now.new) c.args.request.now true p q kept.matching kept.witnesses.items) c.args.request.now.quiet
+    ends_judged (given_by c.args.texts.now.old) (given_by c.args.texts.now.new) c.args.request.now p q c.in-Ok.ensures.old c.in-Ok.ensures.new
+    true kept.matching kept.witnesses.items _ _ _
+    (subst (λ (x : WriteLog). Ends (FindsAsked (given_by c.args.texts.now.old) (given_by c.args.texts.now.new) c.args.request.now true p q kept.matching kept.witnesses.items) c.args.request.now.quiet
     (g.O.Sink.log c.args.out.now) (g.O.Sink.log c.judge_programs.new.out) (PutsAll x (g.E.Sink.log c.judge_programs.new.err)))
     c.in-Ok.ensures.unsaid c.in-Ok-judge_programs.ensures.done)
 
@@ -30,7 +31,7 @@ returns-in-Ok-judge_programs-clause-kept g c =
     let kept = c.in-Ok-judge_programs.kept in
     keeps_witnesses (given_by c.args.texts.now.old) (given_by c.args.texts.now.new) c.args.request.now
     (record { old = p; new = q; matching = kept.matching; witnesses = kept.witnesses.items; why = c.args.texts.now.old.why }) _ _ _ c.in-Ok.ensures.old c.in-Ok.ensures.new
-    (subst (λ (x : WriteLog). Ends (FindsAssuming (given_by c.args.texts.now.old) (given_by c.args.texts.now.new) c.args.request.now true p q kept.matching kept.witnesses.items) c.args.request.now.quiet
+    (subst (λ (x : WriteLog). Ends (FindsAsked (given_by c.args.texts.now.old) (given_by c.args.texts.now.new) c.args.request.now true p q kept.matching kept.witnesses.items) c.args.request.now.quiet
     (g.O.Sink.log c.args.out.now) (g.O.Sink.log c.judge_programs.new.out) (PutsAll x (g.E.Sink.log c.judge_programs.new.err)))
     c.in-Ok.ensures.unsaid c.in-Ok-judge_programs.ensures.done)
 

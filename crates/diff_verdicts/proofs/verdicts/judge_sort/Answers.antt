@@ -4,6 +4,7 @@ use Rattle.diff_cases.specs.Alike.{LeavesAlike}
 use Rattle.diff_cases.specs.declared.target.Target.{Target}
 use Rattle.diff_matching.specs.declared.matching.Pair.{Pair}
 use Rattle.diff_matching.specs.Matching.{Matching}
+use Rattle.diff_meaning.specs.Counting.{CountAssuming}
 use Rattle.diff_meaning.specs.Verdicts.{CanBeJudged, IsTrueOf, pairs_of, target_of}
 use Rattle.diff_meaning.specs.Witnesses.{Difference, told_by, told_of}
 use Rattle.diff_meaning.specs.declared.counted.Counted.{Counted}
@@ -77,9 +78,9 @@ loop-number-preserved c =
     let first : List Witness = c.args.witnesses.now.items in
     let then : List Witness = c.loop-number.witnesses.items in
     let last : List Witness = c.judge_pair.new.witnesses.items in
-    let truth : IsTrueOf j.counted j.matching j.old_program j.new_program (target_of sort x) v =
-    subst (λ (t : Target). IsTrueOf j.counted j.matching j.old_program j.new_program t v) named.2
-    (of_same (λ (a : Counted) (m : Matching) (p q : Drawing). IsTrueOf a m p q target v) j k inv.same c.in_ok-verdict.ensures.truth) in
+    let truth : IsTrueOf (CountAssuming j.counted) j.matching j.old_program j.new_program (target_of sort x) v =
+    subst (λ (t : Target). IsTrueOf (CountAssuming j.counted) j.matching j.old_program j.new_program t v) named.2
+    (of_same (λ (a : Counted) (m : Matching) (p q : Drawing). IsTrueOf (CountAssuming a) m p q target v) j k inv.same c.in_ok-verdict.ensures.truth) in
     let kept : AreKept j.counted j.matching j.old_program j.new_program keeps (told_by (target_of sort x) v) then last =
     subst (λ (t : Target). AreKept j.counted j.matching j.old_program j.new_program keeps (told_by t v) then last) named.2
     (of_same (λ (a : Counted) (m : Matching) (p q : Drawing). AreKept a m p q keeps (told_by target v) then last) j k inv.same c.in_ok-verdict.ensures.kept) in
