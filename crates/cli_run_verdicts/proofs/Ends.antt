@@ -1,22 +1,27 @@
 -- How the judging of two programs over runs ends, by what was written of them.
-use Rattle.std.proofs.Common.{◌≡◌, Bool, Err, List, Ok, Option, Result, ℕ, None, inl, inr, refl, subst, sym}
+use Rattle.std.proofs.Common.{◌≡◌, Bool, Err, List, Ok, Option, Result, ℕ, None, Some, inl, inr, refl, subst, sym}
 use Rattle.std.specs.Prelude.{IfErr, IfOk}
 use Rattle.diagram_program.specs.Program.{Drawing}
 use Rattle.diagram_reader.specs.Titled.{HasProgram}
+use Rattle.diff_matching.specs.Matching.{Matching}
+use Rattle.diff_run_verdicts.proofs.Nothing.{found_of_all, true_of_all}
+use Rattle.diff_run_verdicts.specs.declared.findings.RunFindings.{RunFindings}
+use Rattle.diff_runs.specs.Laws.{AreAssumedAlways}
 use Rattle.io_text.specs.Log.{PutsAll, PutsPrefix, WriteLog}
 use Rattle.cli_arguments.specs.declared.request.DiffRunsRequest.{DiffRunsRequest}
 use Rattle.cli_inputs.specs.Reports.{IsReportedBy, Logs, logs}
 use Rattle.cli_inputs.specs.Setting.{Given}
 use Rattle.cli_inputs.specs.declared.fault.ToolFault.{ToolFault}
+use Rattle.cli_questions.specs.declared.counting.ListCounts.{ListCounts}
 use Rattle.cli_questions.specs.Ending.{Ends, counts_line, unless_quiet}
-use Rattle.cli_assumed_both.specs.Together.{HasAssumedFault, IsAssumedWhere}
+use Rattle.cli_verdicts.specs.Together.{HasAssumedFault, IsAssumedWhere}
 use Rattle.cli_diff.specs.Assumed.{Assumption}
 use Rattle.cli_diff.specs.Ending.{RefusesOf}
 use Rattle.cli_diff.specs.Faults.{given_of}
 use Rattle.cli_diff.specs.declared.sided.SidedFault.{SidedFault}
 use Rattle.cli_verdicts.specs.Ending.{HasTextFault}
 use Rattle.cli_run_verdicts.specs.Assuming.{RunsAssumption, in_runs}
-use Rattle.cli_run_verdicts.specs.Ending.{CountsRuns, FailsToFindRuns, FailsToJudgeRuns, FailsToWriteRuns, FindsKeepingAsked, FindsKeepingAssuming, HasRunsFault, KeepsRuns, WritesKeeping, assumes_of}
+use Rattle.cli_run_verdicts.specs.Ending.{CountsRuns, FailsToFindRuns, FailsToJudgeRuns, FailsToWriteRuns, FindsInRunsAssuming, FindsInRunsWhere, FindsKeepingAsked, FindsKeepingAssuming, FindsKeepingWhere, HasRunsFault, KeepsRuns, WritesKeeping, assumes_of}
 use Rattle.cli_run_verdicts.specs.Judged.{JudgedInRuns}
 use Rattle.cli_run_verdicts.specs.declared.writing.Kept.{Kept}
 use Rattle.cli_run_verdicts.specs.declared.writing.Written.{Written}
@@ -69,6 +74,31 @@ text_refused g h r s t refused = record {
   reported = refused.reported;
 }
 
+-- ---- what is found, by what is assumed
+
+module _ (p q : Drawing) (always : AreAssumedAlways p q) where
+  found_where : (a : Option Assumption) (text : List ℕ) (n : Option ListCounts) → FindsInRunsAssuming (in_runs a) p q text n → FindsInRunsWhere a p q text n
+  found_where None text n f = record {
+    matching = f.matching;
+    verdicts = f.verdicts;
+    names = f.names;
+    judged = true_of_all f.matching p q always f.verdicts f.judged;
+    written = f.written;
+    counted = f.counted;
+  }
+  found_where (Some a) text n f = f
+
+  kept_where : (a : Option Assumption) (m : Matching) (found : RunFindings) (text : List ℕ) (n : Option ListCounts)
+      → FindsKeepingAssuming (in_runs a) p q m found text n → FindsKeepingWhere a p q m found text n
+  kept_where None m found text n kept = (found_where None text n kept.0, kept.1, found_of_all m p q always found kept.2.0, kept.2.1)
+  kept_where (Some a) m found text n kept = kept
+
+-- What is kept was found.
+kept_found : (a : Option Assumption) (p q : Drawing) (m : Matching) (found : RunFindings) (text : List ℕ) (n : Option ListCounts)
+    → FindsKeepingWhere a p q m found text n → FindsInRunsWhere a p q text n
+kept_found None p q m found text n kept = kept.0
+kept_found (Some a) p q m found text n kept = kept.0
+
 -- Two programs that texts describe.
 module _ (g h : Given) (r : DiffRunsRequest) (p q : Drawing) (old : HasProgram g.aliases g.program p) (new : HasProgram h.aliases h.program q) where
   -- What is assumed of them is refused.
@@ -84,14 +114,14 @@ module _ (g h : Given) (r : DiffRunsRequest) (p q : Drawing) (old : HasProgram g
   })
 
   -- What is found where this is assumed is what is asked for where the request assumes it.
-  module _ (a : Option Assumption) (is : IsAssumedWhere g h (assumes_of r) p q a) where
+  module _ (always : AreAssumedAlways p q) (a : Option Assumption) (is : IsAssumedWhere g h (assumes_of r) p q a) where
     pub ends_asked : (o o' s s' : WriteLog) (result : Result Kept ℕ)
         → IfOk result (λ kept. Ends (FindsKeepingAssuming (in_runs a) p q kept.matching kept.found) r.quiet o o' (PutsAll s s'))
         → IfOk result (λ kept. Ends (FindsKeepingAsked g h r p q kept.matching kept.found) r.quiet o o' (PutsAll s s'))
     ends_asked o o' s s' (Ok kept) ends = record {
       text = ends.text;
       counts = ends.counts;
-      is = record { assumption = a; assumed = is; kept = ends.is };
+      is = record { assumption = a; assumed = is; kept = kept_where p q always a kept.matching kept.found ends.text (Some ends.counts) ends.is };
       put = ends.put;
       counted = ends.counted;
     }
@@ -99,11 +129,11 @@ module _ (g h : Given) (r : DiffRunsRequest) (p q : Drawing) (old : HasProgram g
 
     asked_of : (s t : Logs) → FailsToFindRuns (in_runs a) g h r p q s t → FailsToJudgeRuns g h r s t
     asked_of s t (inl refused) = inl (text_refused g h r s t refused)
-    asked_of s t (inr (inl cut)) = inr (inl (cut.0, (p, q, old, new, record { assumption = a; assumed = is; found = cut.1 }), cut.2, cut.3))
+    asked_of s t (inr (inl cut)) = inr (inl (cut.0, (p, q, old, new, record { assumption = a; assumed = is; found = found_where p q always a cut.0 None cut.1 }), cut.2, cut.3))
     asked_of s t (inr (inr ends)) = inr (inr (record {
       text = ends.text;
       counts = ends.counts;
-      is = (p, q, old, new, record { assumption = a; assumed = is; found = ends.is });
+      is = (p, q, old, new, record { assumption = a; assumed = is; found = found_where p q always a ends.text (Some ends.counts) ends.is });
       put = ends.put;
       counted = ends.counted;
     }))
@@ -121,7 +151,17 @@ module _ (g h : Given) (r : DiffRunsRequest) (j : JudgedInRuns) (o o' : WriteLog
   counts_runs = record {
     text = ends.text;
     counts = ends.counts;
-    is = (j.old, j.new, old, new, record { assumption = ends.is.assumption; assumed = ends.is.assumed; found = ends.is.kept.0 });
+    is = (
+      j.old,
+      j.new,
+      old,
+      new,
+      record {
+        assumption = ends.is.assumption;
+        assumed = ends.is.assumed;
+        found = kept_found ends.is.assumption j.old j.new j.matching j.found ends.text (Some ends.counts) ends.is.kept;
+      },
+    );
     put = ends.put;
     counted = ends.counted;
   }

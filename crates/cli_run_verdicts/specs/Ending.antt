@@ -1,5 +1,5 @@
 -- How the judging of two programs over runs ends: what was found is written, or a fault stops it.
-use Rattle.std.specs.Prelude.{◌≡◌, ◌⊎◌, ℕ, List, Option, None, Some, IfSome, Result, Ok, Err}
+use Rattle.std.specs.Prelude.{◌≡◌, ◌⊎◌, ℕ, false, List, Option, None, Some, IfSome, Result, Ok, Err}
 use Rattle.diagram_program.specs.Program.{Drawing}
 use Rattle.diagram_reader.specs.Titled.{HasProgram}
 use Rattle.search_differences.specs.declared.side.Side.{Side}
@@ -7,7 +7,7 @@ use Rattle.diff_matching.specs.Matching.{Matching}
 use Rattle.diff_matching.specs.Names.{IsByNames}
 use Rattle.diff_meaning.specs.declared.verdict.Verdicts.{Verdicts}
 use Rattle.diff_findings.specs.Findings.{findings}
-use Rattle.diff_run_verdicts.specs.RunVerdicts.{AreFoundAssuming, AreTrueOfRunsAssuming}
+use Rattle.diff_run_verdicts.specs.RunVerdicts.{AreFound, AreFoundAssuming, AreTrueOfRuns, AreTrueOfRunsAssuming}
 use Rattle.diff_run_verdicts.specs.Telling.{AreToldOf}
 use Rattle.diff_run_verdicts.specs.declared.findings.RunFindings.{RunFindings}
 use Rattle.text_findings.specs.FindingText.{findings_text}
@@ -19,16 +19,31 @@ use Rattle.cli_inputs.specs.Reports.{Logs}
 use Rattle.cli_inputs.specs.Setting.{Given}
 use Rattle.cli_questions.specs.Ending.{BreaksOff, Ends, Listing}
 use Rattle.cli_questions.specs.declared.counting.ListCounts.{ListCounts}
-use Rattle.cli_assumed_both.specs.Together.{HasAssumedFault, IsAssumedWhere}
+use Rattle.cli_verdicts.specs.Together.{HasAssumedFault, IsAssumedWhere}
 use Rattle.cli_diff.specs.Assumed.{Assumption}
 use Rattle.cli_diff.specs.AssumedEnding.{Assumes}
 use Rattle.cli_diff.specs.Ending.{RefusesOf}
-use Rattle.cli_verdicts.specs.Ending.{HasTextFault}
-use Rattle.cli_run_verdicts.specs.Assuming.{RunsAssumption, in_runs, nothing, run_counts}
+use Rattle.cli_verdicts.specs.Ending.{HasTextFault, verdict_counts}
+use Rattle.cli_run_verdicts.specs.Assuming.{RunsAssumption, in_runs, run_counts}
 use Rattle.cli_run_verdicts.specs.Judged.{JudgedInRuns}
 
 -- The text of what is found of two programs in runs, and what is counted of it: by what belongs together by names, and verdicts each of which is
--- true of all runs from the fresh states in each scan of which what is assumed is true. Nothing is said of equivalence.
+-- true of all runs from the fresh states. Nothing is said of equivalence.
+pub record FindsInRuns (p q : Drawing) (text : List ℕ) (c : Option ListCounts) : Type 0 where
+  pub matching : Matching
+  pub verdicts : Verdicts
+  pub names : IsByNames matching p q
+  pub judged : AreTrueOfRuns matching p q verdicts
+  pub written : text ≡ findings_text p q (findings p q matching verdicts)
+  pub counted : IfSome c (λ n. n ≡ verdict_counts (findings p q matching verdicts) false)
+
+-- The same, where this belongs together, and this is what searches found, by which the verdicts are told.
+abbrev pub FindsKeeping : Drawing → Drawing → Matching → RunFindings → Listing
+FindsKeeping p q m found text c = (f : FindsInRuns p q text c) × (f.matching ≡ m) × AreFound m p q found × AreToldOf found f.verdicts
+
+-- ---- where something is assumed
+
+-- The text and the counts, by verdicts each of which is true of all runs from the fresh states in each scan of which what is assumed is true.
 pub record FindsInRunsAssuming (a : RunsAssumption) (p q : Drawing) (text : List ℕ) (c : Option ListCounts) : Type 0 where
   pub matching : Matching
   pub verdicts : Verdicts
@@ -37,16 +52,17 @@ pub record FindsInRunsAssuming (a : RunsAssumption) (p q : Drawing) (text : List
   pub written : text ≡ findings_text p q (findings p q matching verdicts)
   pub counted : IfSome c (λ n. n ≡ run_counts a.expressions (findings p q matching verdicts))
 
--- The same, where this belongs together, and this is what searches found, by which the verdicts are told.
 abbrev pub FindsKeepingAssuming : RunsAssumption → Drawing → Drawing → Matching → RunFindings → Listing
 FindsKeepingAssuming a p q m found text c = (f : FindsInRunsAssuming a p q text c) × (f.matching ≡ m) × AreFoundAssuming a.both m p q found × AreToldOf found f.verdicts
 
--- where nothing is assumed
-abbrev pub FindsInRuns : Drawing → Drawing → Listing
-FindsInRuns = FindsInRunsAssuming nothing
+-- This is found where this is assumed, if something is.
+abbrev pub FindsInRunsWhere : Option Assumption → Drawing → Drawing → Listing
+FindsInRunsWhere None p q text c = FindsInRuns p q text c
+FindsInRunsWhere (Some a) p q text c = FindsInRunsAssuming (in_runs (Some a)) p q text c
 
-abbrev pub FindsKeeping : Drawing → Drawing → Matching → RunFindings → Listing
-FindsKeeping = FindsKeepingAssuming nothing
+abbrev pub FindsKeepingWhere : Option Assumption → Drawing → Drawing → Matching → RunFindings → Listing
+FindsKeepingWhere None p q m found text c = FindsKeeping p q m found text c
+FindsKeepingWhere (Some a) p q m found text c = FindsKeepingAssuming (in_runs (Some a)) p q m found text c
 
 -- ---- what a request assumes
 
@@ -57,14 +73,14 @@ assumes_of r = record { expressions = r.assumed.items; takes_comments = r.takes_
 pub record FindsAsked (g h : Given) (r : DiffRunsRequest) (p q : Drawing) (text : List ℕ) (c : Option ListCounts) : Type 0 where
   pub assumption : Option Assumption
   pub assumed : IsAssumedWhere g h (assumes_of r) p q assumption
-  pub found : FindsInRunsAssuming (in_runs assumption) p q text c
+  pub found : FindsInRunsWhere assumption p q text c
 
 -- The same, by what is kept.
 pub record FindsKeepingAsked (g h : Given) (r : DiffRunsRequest) (p q : Drawing) (m : Matching) (found : RunFindings) (text : List ℕ) (c : Option ListCounts)
     : Type 0 where
   pub assumption : Option Assumption
   pub assumed : IsAssumedWhere g h (assumes_of r) p q assumption
-  pub kept : FindsKeepingAssuming (in_runs assumption) p q m found text c
+  pub kept : FindsKeepingWhere assumption p q m found text c
 
 -- ---- how the judging ends
 

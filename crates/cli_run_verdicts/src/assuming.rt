@@ -1,7 +1,7 @@
 //! What is assumed of the inputs of two programs that are judged over runs.
 
 ghost use Rattle.std.specs.Prelude.{◌≡◌, option_map};
-ghost use Rattle.cli_assumed_both.specs.Together.{assumption_read};
+ghost use Rattle.cli_verdicts.specs.Together.{assumption_read};
 ghost use Rattle.cli_run_verdicts.specs.Assuming.{assumption, in_runs, nothing};
 
 use cli_diff::ReadAssumed;

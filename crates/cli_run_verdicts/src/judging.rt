@@ -12,10 +12,10 @@ ghost use Rattle.cli_run_verdicts.specs.Ending.{FailsToFindRuns, FailsToJudgeRun
 use crate::assuming::{RunsAssuming, assuming_by};
 use crate::writing::{Kept, Written, write_runs};
 use cli_arguments::DiffRunsRequest;
-use cli_assumed_both::read_what_is_assumed;
 use cli_diff::{Assumes, DiffTexts, SidedFault, report};
 use cli_questions::put_counts;
-use cli_verdicts::Programs;
+use cli_verdicts::{Programs, read_what_is_assumed};
+use diff_runs::laws::nothing_assumed;
 use io_text::Sink;
 use reach_search::Limits;
 use std::alloc::Global;
@@ -109,6 +109,7 @@ pub(crate) fn judge_read<O: Sink, E: Sink>(
             let assuming = assuming_by(&read);
             let kept = judge_programs(alloc, request, texts, programs, assuming, out, err);
             drop(read);
+            nothing_assumed(&programs.old, &programs.new);
             kept
         }
         Err(fault) => Err(report(texts, fault, err)),

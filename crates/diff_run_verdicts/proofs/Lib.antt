@@ -1,2 +1,3 @@
 mod ForEver
 mod Listing
+pub mod Nothing

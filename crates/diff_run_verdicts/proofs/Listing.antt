@@ -73,7 +73,7 @@ so_of_others {T} {U} Is Are f m sort list makes are = record {
 -- The verdict by what is true is true.
 told : (a : Assumptions) (m : Matching) (p q : Drawing) (x : TwoSymbols) (found : RunDifference)
     → IsTrueInRunsAssuming a m p q x found → IsTrueOfRunsAssuming a m p q x (verdict_of found)
-told a m p q x (Shown runs) is = (refl, (is.scans, is.shows))
+told a m p q x (Shown runs) is = (refl, (is.showing.scans, record { shows = is.showing.shows; assumed = is.assumed }))
 told a m p q x Never is = is
 told a m p q x (Open scans) is = tt
 

@@ -8,10 +8,11 @@ use Rattle.diff_matching.specs.Runs.{TwoScans}
 use Rattle.diff_meaning.specs.declared.verdict.Verdict.{Verdict}
 use Rattle.diff_meaning.specs.declared.verdict.Verdict.TheVariants.{Same, Differs, Unsettled}
 use Rattle.diff_meaning.specs.declared.verdict.Verdicts.{Verdicts}
-use Rattle.diff_runs.specs.Assuming.{Assumptions, nothing}
-use Rattle.diff_runs.specs.Showing.{NeverShownAssuming, ShowsInRunAssuming}
+use Rattle.diff_runs.specs.Assuming.{Assumptions}
+use Rattle.diff_runs.specs.Showing.{NeverShown, NeverShownAssuming, ShowsInRun, ShowsInRunAssuming}
 use Rattle.diff_runs.specs.declared.symbols.TwoSymbols.{TwoSymbols}
-use Rattle.diff_search.specs.Differences.{IsTrueInRunsAssuming}
+use Rattle.diff_search.specs.Differences.{IsTrueInRuns, IsTrueInRunsAssuming}
+use Rattle.diff_search.specs.declared.difference.RunDifference.{RunDifference}
 use Rattle.diff_run_verdicts.specs.declared.findings.RunFindings.{RunFindings}
 use Rattle.diff_run_verdicts.specs.declared.names.NameSort.{NameSort}
 use Rattle.diff_run_verdicts.specs.declared.names.NameSort.TheVariants.{Variables, Instances}
@@ -30,37 +31,50 @@ pub record AreOfPairs {T : Type 0} (Is : TwoSymbols → T → Type 0) (m : Match
   pub as_many : length list ≡ length (pairs_of sort m)
   pub each : (n : ℕ) (x : Pair) (item : T) → slice_get (pairs_of sort m) n ≡ Some x → slice_get list n ≡ Some item → Is (symbols_of sort x) item
 
--- ---- verdicts
-
--- Some runs, in each scan of which what is assumed is true, show that the symbols differ: after the last of their scans the one of OLD has this
--- value, and the one of NEW the other.
-abbrev pub SomeRunsShow : Assumptions → Matching → Drawing → Drawing → TwoSymbols → Bool → Type 0
-SomeRunsShow a m p q x value = (scans : List TwoScans) × ShowsInRunAssuming a m p q x value scans
-
--- The verdict is true of two symbols in such runs: none ever show a difference, or some do, with these values. Where it isn't settled nothing is
--- said.
-abbrev pub IsTrueOfRunsAssuming : Assumptions → Matching → Drawing → Drawing → TwoSymbols → Verdict → Type 0
-IsTrueOfRunsAssuming a m p q x Same = NeverShownAssuming a m p q x
-IsTrueOfRunsAssuming a m p q x (Differs old new) = (new ≡ not old) × SomeRunsShow a m p q x old
-IsTrueOfRunsAssuming a m p q x Unsettled = Unit {0}
-
--- The verdicts are true of all names. Edges have none: of each of them it is told that it is the same, for which no row stands.
-pub record AreTrueOfRunsAssuming (a : Assumptions) (m : Matching) (p q : Drawing) (verdicts : Verdicts) : Type 0 where
-  pub variables : AreOfPairs (IsTrueOfRunsAssuming a m p q) m Variables verdicts.variables.items
-  pub instances : AreOfPairs (IsTrueOfRunsAssuming a m p q) m Instances verdicts.instances.items
+-- Verdicts, each so of the symbols of its name. Edges have none: of each of them it is told that it is the same, for which no row stands.
+pub record AreOfNames (Is : TwoSymbols → Verdict → Type 0) (m : Matching) (verdicts : Verdicts) : Type 0 where
+  pub variables : AreOfPairs Is m Variables verdicts.variables.items
+  pub instances : AreOfPairs Is m Instances verdicts.instances.items
   pub memories : verdicts.memories.items ≡ map (λ x. Same) m.memories
 
--- where nothing is assumed
-abbrev pub AreTrueOfRuns : Matching → Drawing → Drawing → Verdicts → Type 0
-AreTrueOfRuns = AreTrueOfRunsAssuming nothing
+-- What was found, each so of the symbols of its name.
+pub record AreFoundOfNames (Is : TwoSymbols → RunDifference → Type 0) (m : Matching) (findings : RunFindings) : Type 0 where
+  pub variables : AreOfPairs Is m Variables findings.variables.items
+  pub instances : AreOfPairs Is m Instances findings.instances.items
 
--- ---- what searches find
+-- ---- verdicts
+
+-- Some runs show that the symbols differ: after the last of their scans the one of OLD has this value, and the one of NEW the other.
+abbrev pub SomeRunsShow : Matching → Drawing → Drawing → TwoSymbols → Bool → Type 0
+SomeRunsShow m p q x value = (scans : List TwoScans) × ShowsInRun m p q x value scans
+
+-- The verdict is true of two symbols in runs: no runs ever show a difference, or some do, with these values. Where it isn't settled nothing is
+-- said.
+abbrev pub IsTrueOfRuns : Matching → Drawing → Drawing → TwoSymbols → Verdict → Type 0
+IsTrueOfRuns m p q x Same = NeverShown m p q x
+IsTrueOfRuns m p q x (Differs a b) = (b ≡ not a) × SomeRunsShow m p q x a
+IsTrueOfRuns m p q x Unsettled = Unit {0}
+
+-- The verdicts are true of all names.
+abbrev pub AreTrueOfRuns : Matching → Drawing → Drawing → Verdicts → Type 0
+AreTrueOfRuns m p q verdicts = AreOfNames (IsTrueOfRuns m p q) m verdicts
 
 -- What was found of all names is true.
-pub record AreFoundAssuming (a : Assumptions) (m : Matching) (p q : Drawing) (findings : RunFindings) : Type 0 where
-  pub variables : AreOfPairs (IsTrueInRunsAssuming a m p q) m Variables findings.variables.items
-  pub instances : AreOfPairs (IsTrueInRunsAssuming a m p q) m Instances findings.instances.items
-
--- where nothing is assumed
 abbrev pub AreFound : Matching → Drawing → Drawing → RunFindings → Type 0
-AreFound = AreFoundAssuming nothing
+AreFound m p q findings = AreFoundOfNames (IsTrueInRuns m p q) m findings
+
+-- ---- where something is assumed: the same of runs in each scan of which it is true
+
+abbrev pub SomeRunsShowAssuming : Assumptions → Matching → Drawing → Drawing → TwoSymbols → Bool → Type 0
+SomeRunsShowAssuming a m p q x value = (scans : List TwoScans) × ShowsInRunAssuming a m p q x value scans
+
+abbrev pub IsTrueOfRunsAssuming : Assumptions → Matching → Drawing → Drawing → TwoSymbols → Verdict → Type 0
+IsTrueOfRunsAssuming a m p q x Same = NeverShownAssuming a m p q x
+IsTrueOfRunsAssuming a m p q x (Differs old new) = (new ≡ not old) × SomeRunsShowAssuming a m p q x old
+IsTrueOfRunsAssuming a m p q x Unsettled = Unit {0}
+
+abbrev pub AreTrueOfRunsAssuming : Assumptions → Matching → Drawing → Drawing → Verdicts → Type 0
+AreTrueOfRunsAssuming a m p q verdicts = AreOfNames (IsTrueOfRunsAssuming a m p q) m verdicts
+
+abbrev pub AreFoundAssuming : Assumptions → Matching → Drawing → Drawing → RunFindings → Type 0
+AreFoundAssuming a m p q findings = AreFoundOfNames (IsTrueInRunsAssuming a m p q) m findings

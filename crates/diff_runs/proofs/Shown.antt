@@ -59,20 +59,22 @@ shown p q b old_sound new_sound sound old_allows new_allows m of_old of_new besi
     let left = left_by b scans in
     let on = switched.on in
     record {
-      some = omega (arith, switched.some, length-map scans (pulled old_places new_places));
-      runs = both_runs m of_old of_new p q b beside old_places new_places scans (fresh p) (fresh q) (fresh b) old_runs new_runs;
+      shows = record {
+        some = omega (arith, switched.some, length-map scans (pulled old_places new_places));
+        runs = both_runs m of_old of_new p q b beside old_places new_places scans (fresh p) (fresh q) (fresh b) old_runs new_runs;
+        of_old = ap (λ ss. is_on x.old (left_by p ss)) (map-map old_scan (pulled old_places new_places) scans)
+            ∙ alike_after of_old p b beside.old.agree (part_scan old_places) scans switched.some old_runs x.old there.old are_in.old
+            ∙ ap (λ ss. is_on there.old (left_by b ss)) (same_scans scans)
+            ∙ first_is value (is_on there.old left) (is_on there.new left) on;
+        of_new = ap (λ ss. is_on x.new (left_by q ss)) (map-map new_scan (pulled old_places new_places) scans)
+            ∙ alike_after of_new q b beside.new.agree (part_scan new_places) scans switched.some new_runs x.new there.new are_in.new
+            ∙ ap (λ ss. is_on there.new (left_by b ss)) (same_scans scans)
+            ∙ second_is value (is_on there.old left) (is_on there.new left) on;
+      };
       assumed = record {
         old = old_allows (over_inputs p a.old) refl (fresh p) (fresh_fits p) (map old_scan (map (pulled old_places new_places) scans))
             (old_allowed a of_old of_new p q b old_places new_places joint are there value scans switched.asked.given);
         new = new_allows (over_inputs q a.new) refl (fresh q) (fresh_fits q) (map new_scan (map (pulled old_places new_places) scans))
             (new_allowed a of_old of_new p q b old_places new_places joint are there value scans switched.asked.given);
       };
-      of_old = ap (λ ss. is_on x.old (left_by p ss)) (map-map old_scan (pulled old_places new_places) scans)
-          ∙ alike_after of_old p b beside.old.agree (part_scan old_places) scans switched.some old_runs x.old there.old are_in.old
-          ∙ ap (λ ss. is_on there.old (left_by b ss)) (same_scans scans)
-          ∙ first_is value (is_on there.old left) (is_on there.new left) on;
-      of_new = ap (λ ss. is_on x.new (left_by q ss)) (map-map new_scan (pulled old_places new_places) scans)
-          ∙ alike_after of_new q b beside.new.agree (part_scan new_places) scans switched.some new_runs x.new there.new are_in.new
-          ∙ ap (λ ss. is_on there.new (left_by b ss)) (same_scans scans)
-          ∙ second_is value (is_on there.old left) (is_on there.new left) on;
     }

@@ -11,7 +11,7 @@ use Rattle.invariant_cases.specs.Allowing.{is_on_in}
 use Rattle.invariant_cases.specs.Cases.{point_of}
 use Rattle.diff_matching.specs.Matching.{Matching}
 use Rattle.diff_matching.specs.Runs.{AreRuns, TwoScans, new_scan, old_scan}
-use Rattle.diff_runs.specs.Assuming.{AreAssumed, Assumptions, nothing}
+use Rattle.diff_runs.specs.Assuming.{AreAssumed, Assumptions}
 use Rattle.diff_runs.specs.declared.symbols.TwoSymbols.{TwoSymbols}
 
 -- The one and the other belong together.
@@ -28,37 +28,39 @@ is_on symbol h = is_on_in (point_of symbol) h
 abbrev pub left_by : Drawing → List OneScan → Held
 left_by p scans = after_each (diagram_of p) scans (fresh p).held
 
--- The runs show a difference: after the last scan the symbol of OLD is ON and the one of NEW is OFF, or the other way for the value OFF. In each scan
--- what is assumed is true.
-pub record ShowsInRunAssuming (a : Assumptions) (m : Matching) (p q : Drawing) (x : TwoSymbols) (value : Bool) (scans : List TwoScans) : Type 0 where
+-- The runs show a difference: after the last scan the symbol of OLD is ON and the one of NEW is OFF, or the other way for the value OFF.
+pub record ShowsInRun (m : Matching) (p q : Drawing) (x : TwoSymbols) (value : Bool) (scans : List TwoScans) : Type 0 where
   pub some : 0 < length scans
   pub runs : AreRuns m p q scans (fresh p) (fresh q)
-  pub assumed : AreAssumed p q a scans
   pub of_old : is_on x.old (left_by p (map old_scan scans)) ≡ value
   pub of_new : is_on x.new (left_by q (map new_scan scans)) ≡ not value
-
--- where nothing is assumed
-abbrev pub ShowsInRun : Matching → Drawing → Drawing → TwoSymbols → Bool → List TwoScans → Type 0
-ShowsInRun = ShowsInRunAssuming nothing
 
 -- They are alike after the last scan.
 abbrev pub AreAlikeAfter : Drawing → Drawing → TwoSymbols → List TwoScans → Type 0
 AreAlikeAfter p q x scans = is_on x.old (left_by p (map old_scan scans)) ≡ is_on x.new (left_by q (map new_scan scans))
 
--- No runs in each scan of which what is assumed is true ever show a difference.
+-- No runs ever show a difference.
+abbrev pub NeverShown : Matching → Drawing → Drawing → TwoSymbols → Type 0
+NeverShown m p q x = (scans : List TwoScans) → 0 < length scans → AreRuns m p q scans (fresh p) (fresh q) → AreAlikeAfter p q x scans
+
+-- No runs of at most so many scans do.
+abbrev pub NotShownWithin : Matching → Drawing → Drawing → TwoSymbols → ℕ → Type 0
+NotShownWithin m p q x most = (scans : List TwoScans) → 0 < length scans → length scans ≤ most → AreRuns m p q scans (fresh p) (fresh q)
+    → AreAlikeAfter p q x scans
+
+-- ---- where something is assumed
+
+-- The runs show a difference, and in each scan what is assumed is true.
+pub record ShowsInRunAssuming (a : Assumptions) (m : Matching) (p q : Drawing) (x : TwoSymbols) (value : Bool) (scans : List TwoScans) : Type 0 where
+  pub shows : ShowsInRun m p q x value scans
+  pub assumed : AreAssumed p q a scans
+
+-- No runs in each scan of which it is true ever show a difference.
 abbrev pub NeverShownAssuming : Assumptions → Matching → Drawing → Drawing → TwoSymbols → Type 0
 NeverShownAssuming a m p q x = (scans : List TwoScans) → 0 < length scans → AreRuns m p q scans (fresh p) (fresh q) → AreAssumed p q a scans
     → AreAlikeAfter p q x scans
-
--- where nothing is assumed
-abbrev pub NeverShown : Matching → Drawing → Drawing → TwoSymbols → Type 0
-NeverShown = NeverShownAssuming nothing
 
 -- No such runs of at most so many scans do.
 abbrev pub NotShownWithinAssuming : Assumptions → Matching → Drawing → Drawing → TwoSymbols → ℕ → Type 0
 NotShownWithinAssuming a m p q x most = (scans : List TwoScans) → 0 < length scans → length scans ≤ most → AreRuns m p q scans (fresh p) (fresh q)
     → AreAssumed p q a scans → AreAlikeAfter p q x scans
-
--- where nothing is assumed
-abbrev pub NotShownWithin : Matching → Drawing → Drawing → TwoSymbols → ℕ → Type 0
-NotShownWithin = NotShownWithinAssuming nothing

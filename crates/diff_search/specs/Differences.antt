@@ -7,10 +7,10 @@ use Rattle.reach_search.specs.declared.seeking.Verdict.{Verdict}
 use Rattle.reach_search.specs.declared.seeking.Verdict.TheVariants.{Run}
 use Rattle.diff_matching.specs.Matching.{Matching}
 use Rattle.diff_matching.specs.Runs.{TwoScans, new_scan, old_scan}
-use Rattle.diff_runs.specs.Assuming.{Assumptions, assumptions, nothing}
+use Rattle.diff_runs.specs.Assuming.{AreAssumed, Assumptions, assumptions}
 use Rattle.diff_runs.specs.Laws.{AreJoined}
 use Rattle.diff_runs.specs.Pulling.{inputs_of}
-use Rattle.diff_runs.specs.Showing.{NeverShownAssuming, NotShownWithinAssuming, ShowsInRunAssuming}
+use Rattle.diff_runs.specs.Showing.{NeverShown, NeverShownAssuming, NotShownWithin, NotShownWithinAssuming, ShowsInRun}
 use Rattle.diff_runs.specs.declared.sides.Sides.{Sides}
 use Rattle.diff_runs.specs.declared.symbols.TwoSymbols.{TwoSymbols}
 use Rattle.diff_search.specs.declared.difference.RunDifference.{RunDifference}
@@ -18,26 +18,29 @@ use Rattle.diff_search.specs.declared.difference.RunDifference.TheVariants.{Neve
 use Rattle.diff_search.specs.declared.difference.TwoRuns.{TwoRuns}
 use Rattle.diff_search.specs.declared.preparing.Prepared.{Prepared}
 
--- Runs of both that show the difference, in each scan of which what is assumed is true: the scans of OLD, and those of NEW.
-pub record AreShowingAssuming (a : Assumptions) (m : Matching) (p q : Drawing) (x : TwoSymbols) (runs : TwoRuns) : Type 0 where
+-- Runs of both that show the difference: the scans of OLD, and those of NEW.
+pub record AreShowing (m : Matching) (p q : Drawing) (x : TwoSymbols) (runs : TwoRuns) : Type 0 where
   pub scans : List TwoScans
-  pub shows : ShowsInRunAssuming a m p q x runs.value scans
+  pub shows : ShowsInRun m p q x runs.value scans
   pub of_old : runs.old.items ≡ map old_scan scans
   pub of_new : runs.new.items ≡ map new_scan scans
 
--- where nothing is assumed
-abbrev pub AreShowing : Matching → Drawing → Drawing → TwoSymbols → TwoRuns → Type 0
-AreShowing = AreShowingAssuming nothing
+-- What is told of the symbols is so of the programs' runs.
+abbrev pub IsTrueInRuns : Matching → Drawing → Drawing → TwoSymbols → RunDifference → Type 0
+IsTrueInRuns m p q x (Shown runs) = AreShowing m p q x runs
+IsTrueInRuns m p q x Never = NeverShown m p q x
+IsTrueInRuns m p q x (Open scans) = NotShownWithin m p q x scans
 
--- What is told of the symbols is so of the programs' runs in each scan of which what is assumed is true.
+-- Such runs, in each scan of which what is assumed is true.
+pub record AreShowingAssuming (a : Assumptions) (m : Matching) (p q : Drawing) (x : TwoSymbols) (runs : TwoRuns) : Type 0 where
+  pub showing : AreShowing m p q x runs
+  pub assumed : AreAssumed p q a showing.scans
+
+-- What is told is so of the runs in each scan of which it is true.
 abbrev pub IsTrueInRunsAssuming : Assumptions → Matching → Drawing → Drawing → TwoSymbols → RunDifference → Type 0
 IsTrueInRunsAssuming a m p q x (Shown runs) = AreShowingAssuming a m p q x runs
 IsTrueInRunsAssuming a m p q x Never = NeverShownAssuming a m p q x
 IsTrueInRunsAssuming a m p q x (Open scans) = NotShownWithinAssuming a m p q x scans
-
--- where nothing is assumed
-abbrev pub IsTrueInRuns : Matching → Drawing → Drawing → TwoSymbols → RunDifference → Type 0
-IsTrueInRuns = IsTrueInRunsAssuming nothing
 
 -- What each search reads of the program in which two stand.
 pub record IsPrepared (b : Sides) (s : Prepared) : Type 0 where

@@ -4,7 +4,7 @@ use Rattle.io_text.specs.Log.{PutsAll}
 use Rattle.cli_inputs.specs.Reports.{logs}
 use Rattle.cli_inputs.specs.Setting.{given_by}
 use Rattle.cli_questions.specs.Ending.{Ends}
-use Rattle.cli_assumed_both.specs.Together.{assumption_read}
+use Rattle.cli_verdicts.specs.Together.{assumption_read}
 use Rattle.cli_run_verdicts.specs.Assuming.{RunsAssumption}
 use Rattle.cli_run_verdicts.specs.Ending.{FailsToFindRuns, FindsKeepingAssuming}
 use Rattle.cli_run_verdicts.proofs.Ends.{assumed_refused, ends_asked, fails_asked}
@@ -17,7 +17,7 @@ returns-in-Ok-clause-done g c =
     let p = c.args.programs.now.old in
     let q = c.args.programs.now.new in
     ends_asked old new c.args.request.now p q c.requires.old c.requires.new
-    (option_map assumption_read c.in-Ok.read) (rw c.as_slice-expressions.ensures.value at c.in-Ok.ensures.read) _ _ _ _ c.judge_programs-kept.result
+    c.nothing_assumed.ensures (option_map assumption_read c.in-Ok.read) (rw c.as_slice-expressions.ensures.value at c.in-Ok.ensures.read) _ _ _ _ c.judge_programs-kept.result
     (subst (λ (a : RunsAssumption). IfOk c.judge_programs-kept.result (λ kept. Ends (FindsKeepingAssuming a p q kept.matching kept.found) c.args.request.now.quiet
     (g.O.Sink.log c.args.out.now) (g.O.Sink.log c.judge_programs-kept.new.out) (PutsAll (g.E.Sink.log c.args.err.now) (g.E.Sink.log c.judge_programs-kept.new.err))))
     c.assuming_by-assuming.ensures c.judge_programs-kept.ensures.done)
@@ -31,7 +31,7 @@ returns-in-Ok-clause-failed g c = λ save.
     let before = logs (g.O.Sink.log c.args.out.now) save (g.E.Sink.log c.args.err.now) in
     let after = logs (g.O.Sink.log c.judge_programs-kept.new.out) save (g.E.Sink.log c.judge_programs-kept.new.err) in
     fails_asked old new c.args.request.now p q c.requires.old c.requires.new
-    (option_map assumption_read c.in-Ok.read) (rw c.as_slice-expressions.ensures.value at c.in-Ok.ensures.read) before after c.judge_programs-kept.result
+    c.nothing_assumed.ensures (option_map assumption_read c.in-Ok.read) (rw c.as_slice-expressions.ensures.value at c.in-Ok.ensures.read) before after c.judge_programs-kept.result
     (subst (λ (a : RunsAssumption). IfErr c.judge_programs-kept.result (λ status. FailsToFindRuns a old new c.args.request.now p q before after))
     c.assuming_by-assuming.ensures (c.judge_programs-kept.ensures.failed save))
 
