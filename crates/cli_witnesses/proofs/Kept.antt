@@ -1,5 +1,11 @@
 -- Two programs that were judged, with the witnesses of the verdicts.
 use Rattle.std.proofs.Common.{Bool, List, None, Option, Some, ℕ, subst, true, refl}
+use Rattle.std.specs.Prelude.{All}
+use Rattle.scan_cycle.specs.Rung.{Held}
+use Rattle.scan_cycle.specs.Standing.{Fits}
+use Rattle.diagram_program.specs.Program.{Drawing}
+use Rattle.diff_meaning.specs.Verdicts.{Shows}
+use Rattle.diff_meaning.specs.declared.witness.Witness.{Witness}
 use Rattle.diagram_reader.specs.Titled.{HasProgram}
 use Rattle.diff_matching.specs.Matching.{Matching}
 use Rattle.diff_meaning.specs.Counting.{Count, CountAssuming}
@@ -37,3 +43,19 @@ keeps_witnesses g h r j o o' Put old new ends = record {
   put = ends.put;
   counted = ends.counted;
 }
+
+-- States that show a difference are each of its program.
+shown_fit : (Counts : Held → Held → Type 0) (m : Matching) (p q : Drawing) (w : Witness) → Shows Counts m p q w.target w.old_state w.new_state w.of_old w.of_new
+    → Fits p w.old_state × Fits q w.new_state
+shown_fit Counts m p q w shows = (shows.witness.shared.old_fits, shows.witness.shared.new_fits)
+
+kept_fit : (a : Option Assumption) (reachable : Bool) (p q : Drawing) (m : Matching) (witnesses : List Witness) (text : List ℕ) (n : Option ListCounts)
+    → FindsKept a true reachable p q m witnesses text n → All (λ w. Fits p w.old_state × Fits q w.new_state) witnesses
+kept_fit None reachable p q m witnesses text n is = λ k w there.
+    shown_fit (Count is.0.states) is.0.matching p q _ ((is.2 refl).show k w there)
+kept_fit (Some a) reachable p q m witnesses text n is = λ k w there.
+    shown_fit (CountAssuming is.0.states) is.0.matching p q _ ((is.2 refl).show k w there)
+
+pub witnesses_fit : (g h : Given) (r : VerdictRequest) (p q : Drawing) (m : Matching) (witnesses : List Witness) (o o' : WriteLog) (Put : List ℕ → Type 0)
+    → Ends (FindsAsked g h r true p q m witnesses) r.quiet o o' Put → All (λ w. Fits p w.old_state × Fits q w.new_state) witnesses
+witnesses_fit g h r p q m witnesses o o' Put ends = kept_fit ends.is.0 r.reachable p q m witnesses ends.text (Some ends.counts) ends.is.2

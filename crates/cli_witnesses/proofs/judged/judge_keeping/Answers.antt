@@ -6,7 +6,7 @@ use Rattle.cli_questions.specs.Ending.{Ends}
 use Rattle.cli_verdicts.specs.Ending.{FailsToJudge, FindsAsked}
 use Rattle.cli_verdicts.proofs.Ends.{ends_judged}
 use Rattle.cli_verdicts.proofs.Faults.{text_refused}
-use Rattle.cli_witnesses.proofs.Kept.{keeps_witnesses}
+use Rattle.cli_witnesses.proofs.Kept.{keeps_witnesses, witnesses_fit}
 use Rattle.cli_witnesses.proofs.judged.judge_keeping.Goals as goal
 
 pub returns-in-Err-clause-failed : goal.returns-in-Err-clause-failed
@@ -40,3 +40,9 @@ returns-in-Err-judge_programs-clause-failed g c = λ save.
     subst (λ (x : WriteLog). FailsToJudge (given_by c.args.texts.now.old) (given_by c.args.texts.now.new) c.args.request.now
     (logs (g.O.Sink.log c.args.out.now) save x) (logs (g.O.Sink.log c.judge_programs.new.out) save (g.E.Sink.log c.judge_programs.new.err)))
     c.in-Ok.ensures.unsaid (c.in-Err-judge_programs.ensures.failed save)
+
+pub invariant_of-result : goal.invariant_of-result
+invariant_of-result g c =
+    let kept = c.in-Ok-judge_programs.kept in
+    witnesses_fit (given_by c.args.texts.now.old) (given_by c.args.texts.now.new) c.args.request.now c.in-Ok.programs.old c.in-Ok.programs.new kept.matching
+    kept.witnesses.items _ _ _ c.in-Ok-judge_programs.ensures.done
