@@ -90,7 +90,8 @@ module _ (p q : Drawing) (always : AreAssumedAlways p q) where
 
   kept_where : (a : Option Assumption) (m : Matching) (found : RunFindings) (text : List ℕ) (n : Option ListCounts)
       → FindsKeepingAssuming (in_runs a) p q m found text n → FindsKeepingWhere a p q m found text n
-  kept_where None m found text n kept = (found_where None text n kept.0, kept.1, found_of_all m p q always found kept.2.0, kept.2.1)
+  unfolding found_where
+  kept_where None m found text n kept = (found_where None text n kept.0, kept.1, found_of_all m p q always found kept.2, kept.3)
   kept_where (Some a) m found text n kept = kept
 
 -- What is kept was found.
