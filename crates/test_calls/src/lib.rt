@@ -5,8 +5,6 @@
 mod causes;
 pub mod memory;
 #[cfg(test)]
-mod runs;
-#[cfg(test)]
 mod scans;
 pub mod surface;
 #[cfg(test)]
