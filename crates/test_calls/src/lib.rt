@@ -1,11 +1,7 @@
-//! Tests of the public calls below the command line, over readers and writers in memory, and the names that callers are promised.
+//! Tests of the reading of texts, over a reader in memory, and the names that callers are promised.
 #![tactic(auto)]
 
-#[cfg(test)]
-mod causes;
 pub mod memory;
-#[cfg(test)]
-mod scans;
 pub mod surface;
 #[cfg(test)]
 mod texts;
